@@ -1,0 +1,54 @@
+-- A list that is filled from the front in chunks of w elements, one chunk a turn: after n turns it is `chunks n g ++ drop (w * n) d`.
+-- Over any element type and any width: f64, f32 and Q15 elements in a byte buffer are w = 8, 4 and 2.
+use mathlib.Core.Path.{_≡_, refl, sym, ap, _∙_}
+use mathlib.Core.List.{List, [], _++_, append-nil}
+use Prim.Native.Nat.{ℕ, zero, suc, _+_, _*_, _≤_}
+use native.Mathlib.Nat.{mul-suc, mul-zero}
+use native.Mathlib.Numerals.{add-one}
+use native.Mathlib.Omega.{arith}
+use lib.ListN.{length, drop, length-append, length-drop, drop-of-length-le}
+use lib.Seq.{sets, sets-eq, take-at, drop-drop, drop-append-add}
+
+module _ {A : Type 0} where
+  unfoldable pub chunks : ℕ → (ℕ → List A) → List A
+  chunks zero g = []
+  chunks (suc n) g = chunks n g ++ g n
+
+  -- the first n chunks by g, the rest as in d
+  abbrev pub chunked : ℕ → ℕ → (ℕ → List A) → List A → List A
+  chunked w n g d = chunks n g ++ drop (w * n) d
+
+  module _ (w : ℕ) (g : ℕ → List A) (width : (i : ℕ) → length (g i) ≡ w) where
+    pub length-chunks : (n : ℕ) → length (chunks n g) ≡ w * n
+    unfolding chunks
+    length-chunks zero = sym (mul-zero w)
+    length-chunks (suc n) = length-append (chunks n g) (g n) ∙ rw (length-chunks n, width n, mul-suc) refl
+
+    pub chunk-none : (d : List A) → d ≡ chunked w 0 g d
+    unfolding chunks
+    chunk-none d = rw mul-zero
+
+    pub length-chunked : (n : ℕ) (d : List A) → w * n ≤ length d → length (chunked w n g d) ≡ length d
+    length-chunked n d h = length-append (chunks n g) (drop (w * n) d) ∙ rw (length-chunks n, length-drop) (omega arith)
+
+    next : (n : ℕ) → w * (n + 1) ≡ w * n + w
+    next n = rw (add-one, mul-suc) refl
+
+    pub chunk-more : (n : ℕ) (d : List A) → w * (n + 1) ≤ length d → sets (chunked w n g d) (w * n) (g n) ≡ chunked w (n + 1) g d
+    unfolding chunks
+    chunk-more n d h =
+        let c = chunks n g in
+        let r = drop (w * n) d in
+        let l = length-chunks n in
+        let k : w * n + length (g n) ≡ w * (n + 1) = omega (arith, next n, width n) in
+        let m = length-chunked n d (omega (arith, next n)) in
+        sets-eq (g n) (c ++ r) (w * n) (omega (arith, k, m))
+        ∙ ap (λ (t : List A). t ++ g n ++ drop (w * n + length (g n)) (c ++ r)) (take-at c r (w * n) l)
+        ∙ ap (λ (t : List A). c ++ g n ++ t)
+        (ap (λ (j : ℕ). drop (j + length (g n)) (c ++ r)) (sym l)
+        ∙ drop-append-add c r (length (g n)) ∙ drop-drop (length (g n)) (w * n) d ∙ ap (λ (j : ℕ). drop j d) k)
+        ∙ ap (λ (j : ℕ). chunks j g ++ drop (w * (n + 1)) d) (sym (add-one n))
+
+    -- all of them
+    pub chunk-all : (n : ℕ) (d : List A) → length d ≤ w * n → chunked w n g d ≡ chunks n g
+    chunk-all n d h = ap (λ (t : List A). chunks n g ++ t) (drop-of-length-le d h) ∙ append-nil (chunks n g)

@@ -1,0 +1,15 @@
+pub mod Cases
+pub mod Tests
+pub mod Filled
+pub mod Prefix
+pub mod Chunks
+pub mod Binary64
+pub mod Rounding
+pub mod Units
+pub mod Operations
+pub mod Floor
+pub mod WholeValues
+pub mod AtMost
+pub mod SumError
+pub mod Sums
+pub mod Quotients

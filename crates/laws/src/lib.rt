@@ -1,0 +1,1 @@
+// Laws that the other crates cite; no code.
