@@ -1,20 +1,28 @@
 -- How large a rounded result can be: where the exact result is no larger than n / d, and n / d is itself a value of the format, neither is the rounded one. Assumes nothing.
-use mathlib.Core.Path.{_≡_, sym, ap, subst}
-use Prim.Native.Nat.{ℕ, zero, suc, _+_, _-_, _*_, _^_, _≤_, _<_}
-use native.Mathlib.Nat.{le-trans, le-of-eq, le-of-lt, mul-pos, mul-le-mul, mul-le-mul-right, le-of-mul-le-mul-right}
+use mathlib.Core.Path.{_≡_, refl, sym, ap, subst}
+use Prim.Native.Nat.{ℕ, zero, suc, _+_, _-_, _*_, _/_, _^_, _≤_, _<_}
+use native.Mathlib.Nat.{le-trans, le-of-eq, le-of-lt, le-of-suc-le-suc, div-lt-iff-lt-mul, div-mul-le-self, mul-one, mul-pos, mul-le-mul, mul-le-mul-right, le-of-mul-le-mul-right}
 use native.Mathlib.Omega.{arith}
 use mathlib.Core.Bool.{Bool, true, false, _&&_, _||_, Bool·beq, cond, true≢false}
 use lib.Dec.{T, ltb, ltb→lt, eqb, eqb→eq}
+use lib.IntN.{pos, negℤ, natAbs}
 use lib.Ieee.{Float, nan, inf, fin, Format, prec, emax, low, up, down, odd, units, round, sum, add, mul, le, unlike}
 use lib.Ieee.Exact.{HasValue, odd-sign}
 use lib.Ieee.Fits.{down-pos, round-is}
+use lib.Ieee.Scale.{finite}
 use lib.Ieee.Order.{drop, kept, round-mono}
+use Rattle.laws.specs.Floor.{floorZ, upward}
 
 -- x is finite, and n / d at most in size
 abbrev pub AtMost : Float → ℕ → ℕ → Type 0
 AtMost nan n d = ⊥
 AtMost (inf s) n d = ⊥
 AtMost (fin s m e) n d = m * up e * d ≤ n * down e
+
+pub at-most-finite : (x : Float) (n d : ℕ) → AtMost x n d → T (finite x)
+at-most-finite nan n d h = h
+at-most-finite (inf s) n d h = h
+at-most-finite (fin s m e) n d h = tt
 
 -- ---- from the order of two values
 cross : (x y e e' n d : ℕ) → 0 < e' → x * e' ≤ y * e → y * d ≡ n * e' → x * d ≤ n * e
@@ -31,7 +39,8 @@ of-test a b v t = go (ltb a b) (eqb a b) (ltb→lt a b) (eqb→eq a b) t
     go false true h k t = le-of-eq (k tt)
     go false false h k t = absurd t
 
-of-le : (x y : Float) (a c n d : ℕ) → HasValue x false a c → HasValue y false n d → T (le x y) → AtMost x n d
+-- what is no larger than y, which is n / d
+pub of-le : (x y : Float) (a c n d : ℕ) → HasValue x false a c → HasValue y false n d → T (le x y) → AtMost x n d
 unfolding le
 of-le nan y a c n d p q t = p
 of-le (inf s) y a c n d p q t = p
@@ -125,3 +134,22 @@ add-at-most f (fin s m e) (inf t) n d n' d' N D P P' Q v k a b = absurd b
 add-at-most f (fin s m e) (fin t m' e') n d n' d' N D P P' Q v k a b =
     sum-at-most f s (m * up e * down e') t (m' * up e' * down e) (down e * down e') N D (mul-pos (down-pos e) (down-pos e')) Q v
     (through (m * up e * down e' + m' * up e' * down e) (n * d' + n' * d) (d * d') N D (down e * down e') (mul-pos P P') (gather (m * up e) (m' * up e') (down e) (down e') n d n' d' P P' a b) k)
+
+-- ---- the floor
+abs-neg : (n : ℕ) → natAbs (negℤ (pos n)) ≡ n
+abs-neg zero = refl
+abs-neg (suc n) = refl
+
+floor-upward : (a n d : ℕ) → 0 < d → a * 1 ≤ n * d → upward a d ≤ n
+floor-upward a n d D h = le-of-suc-le-suc (div-lt-iff-lt-mul D .1 (go a d D h))
+  where
+    go : (a d : ℕ) → 0 < d → a * 1 ≤ n * d → a + (d - 1) < suc n * d
+    go a d D h = omega arith
+
+-- what is n at most in size has a floor of n at most in size
+pub floor-at-most : (x : Float) (n : ℕ) → AtMost x n 1 → natAbs (floorZ x) ≤ n
+unfolding floorZ
+floor-at-most nan n h = absurd h
+floor-at-most (inf s) n h = absurd h
+floor-at-most (fin false m e) n h = le-of-mul-le-mul-right (le-trans (div-mul-le-self (m * up e) (down e)) (le-trans (le-of-eq (sym (mul-one (m * up e)))) h)) (down-pos e)
+floor-at-most (fin true m e) n h = rw (abs-neg (upward (m * up e) (down e))) (floor-upward (m * up e) n (down e) (down-pos e) h)

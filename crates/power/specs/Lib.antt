@@ -1,0 +1,4 @@
+pub mod Exp
+pub mod ExpLaws
+pub mod Pow04
+pub mod Pow04Laws

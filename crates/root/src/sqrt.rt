@@ -1,0 +1,86 @@
+// The square root, by the bit pattern of its operand.
+use crate::digits::root;
+ghost use mathlib.Core.Path.{_≡_};
+ghost use Prim.Native.Nat.{_/_, _%_, _*_, _^_, _<_, _≤_};
+ghost use Rattle.root.specs.Sqrt.{sqrtOf};
+ghost use Rattle.root.specs.Patterns.{magOf};
+ghost use Rattle.root.specs.Nearest.{RootBits};
+ghost use Rattle.root.specs.Scaling.{Finished, Normal};
+
+// 2 ^ 52: the weight of the exponent's field, and of a significand's leading digit.
+const LEAD: u64 = 0x10_0000_0000_0000;
+
+// A value as m * 2 ^ g, in parts of 2 ^ -1024 of the smallest f64.
+struct Scaled {
+    m: u64,
+    g: u64,
+}
+
+// A subnormal value of d units, with the leading digit in the place that it has in the others.
+fn normal(d: u64) -> Scaled
+    requires { ⌜ 0 < d ⌝ ∗ ⌜ d < 2 ^ 53 ⌝ }
+    ensures { λ r. ⌜ Normal d (r .m) (r .g) ⌝ }
+{
+    let mut a = d;
+    let mut k = 1024u64;
+    while a < LEAD {
+        a = a * 2;
+        k = k - 1;
+    }
+    Scaled { m: a, g: k }
+}
+
+// The pattern of the root of the value that m and an even g stand for. The root has half the exponent, and one digit more than the pattern holds, by which it is rounded.
+fn pattern(m: u64, g: u64) -> u64
+    requires { ⌜ 2 ^ 52 ≤ m ⌝ ∗ ⌜ m < 2 ^ 54 ⌝ ∗ ⌜ g % 2 ≡ 0 ⌝ ∗ ⌜ 972 ≤ g ⌝ ∗ ⌜ g ≤ 3069 ⌝ }
+    ensures { λ r. ⌜ Finished m g r ⌝ }
+{
+    let q = root(m);
+    (g / 2 - 1) * LEAD + (q + 1) / 2
+}
+
+// The same where g may be odd, and m has one digit less.
+fn finish(m: u64, g: u64) -> u64
+    requires { ⌜ 2 ^ 52 ≤ m ⌝ ∗ ⌜ m < 2 ^ 53 ⌝ ∗ ⌜ 972 ≤ g ⌝ ∗ ⌜ g ≤ 3069 ⌝ }
+    ensures { λ r. ⌜ Finished m g r ⌝ }
+{
+    if g % 2 == 0 {
+        pattern(m, g)
+    } else {
+        pattern(m * 2, g - 1)
+    }
+}
+
+// The pattern of the root of the finite value above 0 whose pattern is b.
+fn sqrt_bits(b: u64) -> u64
+    requires { ⌜ 0 < b ⌝ ∗ ⌜ b < 2047 * 2 ^ 52 ⌝ }
+    ensures { λ r. ⌜ RootBits (magOf (b / 2 ^ 52) (b % 2 ^ 52)) r ⌝ }
+{
+    let field = b / LEAD;
+    let d = b % LEAD;
+    if field == 0 {
+        let s = normal(d);
+        finish(s.m, s.g)
+    } else {
+        finish(d + LEAD, field + 1023)
+    }
+}
+
+// The square root of x, rounded once: the f64 nearest to it. That of a zero or of +infinity is itself, and that of anything else below 0, or of a NaN, is a NaN.
+pub fn sqrt(x: f64) -> f64
+    ensures { λ r. ⌜ r ≡ sqrtOf x ⌝ }
+{
+    if x > 0.0 {
+        if x < 1.0 / 0.0 {
+            let b: u64 = f64::to_bits(x);
+            let r = sqrt_bits(b);
+            f64::from_bits(r)
+        } else {
+            x
+        }
+    } else if x == 0.0 {
+        x
+    } else {
+        0.0 / 0.0
+    }
+}

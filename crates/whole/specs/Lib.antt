@@ -1,0 +1,5 @@
+pub mod Whole
+pub mod Laws
+pub mod Signs
+pub mod FloorPaths
+pub mod AbsPaths
