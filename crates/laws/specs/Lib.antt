@@ -1,4 +1,5 @@
 pub mod Cases
+pub mod Numbers
 pub mod Tests
 pub mod Filled
 pub mod Prefix
@@ -6,6 +7,7 @@ pub mod Chunks
 pub mod Binary64
 pub mod Rounding
 pub mod Units
+pub mod Values
 pub mod Operations
 pub mod Floor
 pub mod WholeValues

@@ -8,6 +8,7 @@ const LN_2: f64 = 0.6931471805599453;
 
 // ln 2 in two parts, the first short enough that its product with a number of doublings is exact.
 const L1: f64 = 2977044471.0 / 4294967296.0;
+
 const L2: f64 = 3691024475790907.0 / 19342813113834066795298816.0;
 
 // 1 + r · (1 + r · (1/2! + r · (1/3! + ..))), to r^13/13!, innermost first; each fraction is one division.

@@ -15,7 +15,7 @@ fn fifth_root(w: f64) -> f64
         }
         let next = (4.0 * y + w / ((y * y) * (y * y))) / 5.0;
         if !(next < y) {
-            break y;
+            break y; // the one before
         }
         y = next;
         left -= 1;

@@ -1,5 +1,5 @@
 // Sine and cosine of an f64 of a size up to 2^25, NaN beyond.
 pub mod cos;
-pub mod sin;
 mod reduce;
 mod series;
+pub mod sin;

@@ -11,8 +11,11 @@ const PI: f64 = 3.141592653589793;
 
 // π/2 in four parts, each short enough that its product with the number of quarter turns loses little.
 const P1: f64 = 26353589.0 / 16777216.0;
+
 const P2: f64 = 4473553.0 / 281474976710656.0;
+
 const P3: f64 = 8677769.0 / 4722366482869645213696.0;
+
 const P4: f64 = 9225495.0 / 79228162514264337593543950336.0;
 
 pub(crate) struct Reduced {

@@ -2,7 +2,6 @@
 use super::reduce::reduce;
 use super::series::cosine_series;
 use super::series::sine_series;
-
 ghost use mathlib.Core.Path.{_≡_};
 ghost use Rattle.trig.specs.Trig.{sinOf};
 

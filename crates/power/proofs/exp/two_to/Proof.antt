@@ -2,9 +2,10 @@
 use mathlib.Core.Path.{_≡_, sym, ap, _∙_, subst}
 use Prim.Native.Nat.{ℕ, suc, _+_, _-_, _*_, _≤_}
 use native.Mathlib.Omega.{arith}
-use mathlib.Core.Bool.{false}
+use mathlib.Core.Bool.{false, not}
+use lib.Dec.{T}
 use lib.IntN.{ℤ}
-use lib.Ieee.{binary64, fin, ofBits}
+use lib.Ieee.{binary64, fin, nanBits, ofBits}
 use borrow.Author.Needs.{needs}
 use Rattle.power.specs.ExpLaws.{Below, below-asked, below-cut, power-bits, power-no-nan}
 use Rattle.power.proofs.exp.two_to.Statement.{statement}
@@ -31,10 +32,10 @@ rest : (c : tie.After-truncating-f64-to-u64) → 1022 - c .before .pre .n + c .b
 rest c = let l = c .before .pre .small in omega arith
 
 float-from-bits-result : tie.Need-float-from-bits-result
-float-from-bits-result c = rw (field c) (power-no-nan (c .before .pre .n) (1022 - c .before .pre .n) (rest c))
+float-from-bits-result c = subst (λ (x : ℕ). T (not (nanBits binary64 (x * 4503599627370496)))) (sym (field c)) (power-no-nan (c .before .pre .n) (1022 - c .before .pre .n) (rest c))
 
 returns : tie.Need-returns
-returns c = rw (field c) (power-bits (c .before .pre .n) (1022 - c .before .pre .n) (rest c) ∙ ap (λ (z : ℤ). fin false 1 z) (sym (c .before .pre .floor)))
+returns c = ap (λ (x : ℕ). ofBits binary64 (x * 4503599627370496)) (field c) ∙ power-bits (c .before .pre .n) (1022 - c .before .pre .n) (rest c) ∙ ap (λ (z : ℤ). fin false 1 z) (sym (c .before .pre .floor))
 
 pub two-to-spec : {M : Type 1} → statement M
 two-to-spec =

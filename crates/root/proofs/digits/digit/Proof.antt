@@ -1,4 +1,4 @@
--- `root::digits::digit` meets its contract. Assumes nothing.
+-- `root::digits::digit` meets its contract. The shift loses nothing, and each answer is the next step of `Going`. Assumes nothing.
 use native.Mathlib.Omega.{arith}
 use borrow.Author.Needs.{needs}
 use Rattle.root.specs.Digits.{one, none, bit}

@@ -1,4 +1,4 @@
--- `root::digits::root` meets its contract. Assumes nothing.
+-- `root::digits::root` meets its contract. The digits come from the place 2 ^ 53 down; the invariant is `Going`. Assumes nothing.
 use Prim.Native.Nat.{_≤_, _^_}
 use native.Mathlib.Omega.{arith}
 use borrow.Author.Needs.{needs}

@@ -1,4 +1,4 @@
--- `root::sqrt::finish` meets its contract. Assumes nothing.
+-- `root::sqrt::finish` meets its contract. An odd exponent is made even by one doubling. Assumes nothing.
 use native.Mathlib.Omega.{arith}
 use borrow.Author.Needs.{needs}
 use Rattle.root.specs.Scaling.{finished-doubled}

@@ -1,4 +1,4 @@
--- `root::sqrt::normal` meets its contract. Assumes nothing.
+-- `root::sqrt::normal` meets its contract. A doubling and an exponent less by one stand for the same value; 52 of them are enough. Assumes nothing.
 use native.Mathlib.Omega.{arith}
 use borrow.Author.Needs.{needs}
 use Rattle.root.specs.Scaling.{Scaling, scaling-start, scaling-low, scaling-next, scaling-done}

@@ -1,4 +1,4 @@
--- `root::sqrt::pattern` meets its contract. Assumes nothing.
+-- `root::sqrt::pattern` meets its contract. The root has 54 digits, so that the pattern fits a u64. Assumes nothing.
 use native.Mathlib.Omega.{arith}
 use borrow.Author.Needs.{needs}
 use Rattle.root.specs.Scaling.{finished}

@@ -1,4 +1,4 @@
--- `root::sqrt::sqrt` meets its contract. Assumes nothing.
+-- `root::sqrt::sqrt` meets its contract. Each branch is a law of `Branches`. Assumes nothing.
 use mathlib.Core.Path.{sym, subst}
 use Prim.Native.Nat.{_/_, _%_, _^_}
 use lib.Dec.{T}

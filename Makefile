@@ -1,0 +1,51 @@
+# `make run` does the main job, `make test` passes the tests; the others are parts of them or extras.
+CC ?= cc
+CFLAGS ?= -O2
+STRICT = -std=c11 -Wall -Wextra -Werror -Iinclude
+CHECKED = -g -O1 -fsanitize=address,undefined -fno-sanitize-recover=all
+LIB = target/staticlib/libborder.a
+SOURCES = $(shell find crates -name '*.rt' -o -name '*.antt') crates.txt
+
+.PHONY: run test lib c compare bench list distance clean
+
+run: target/tools/functions
+	target/tools/functions
+
+test:
+	tests/run
+
+lib: $(LIB)
+
+$(LIB): $(SOURCES)
+	mkdir -p target
+	rt staticlib border >target/staticlib.log 2>&1 || { cat target/staticlib.log; exit 1; }
+
+target/tools/functions: tools/functions.c include/peldozkar.h $(LIB)
+	mkdir -p target/tools
+	$(CC) $(CFLAGS) $(STRICT) $< -o $@ $(LIB)
+
+# The exports called from C, under the address and undefined-behaviour sanitizers.
+c: $(LIB)
+	mkdir -p target/tests
+	$(CC) $(STRICT) $(CHECKED) tests/c/elementary.c -o target/tests/elementary $(LIB) -lm
+	target/tests/elementary
+
+# Both sides on the same inputs, by bits; skipped in one line where the Rust files are not at hand.
+compare: $(LIB)
+	tests/differential/run compare
+
+# Both sides timed in one run.
+bench: $(LIB)
+	tests/differential/run bench
+
+# The stored list that the program `replay` holds the port to: answers of the Rust side alone.
+list: $(LIB)
+	tests/differential/run list >target/list
+	cp target/list crates/replay/stdin
+
+# The elementary functions against the crate libm (Debian: librust-libm-dev).
+distance:
+	tests/differential/run distance
+
+clean:
+	rm -rf target

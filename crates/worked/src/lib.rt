@@ -1,0 +1,1 @@
+// The worked examples that are proved; no code.

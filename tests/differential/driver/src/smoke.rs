@@ -1,0 +1,25 @@
+//! A few answers of the unchanged Rust files that the scope document gives, to show that they run.
+
+use sdrk_blocks::access::Lowpass;
+use sdrk_blocks::design::{DesignWindow, halfband_len, kaiserord, rrc_len};
+use sdrk_core::kernels::channelize::{MAX_CHANNELS, MIN_CHANNELS};
+use sdrk_core::window::bessel_i0;
+
+/// Prints one line; true if every answer is the one expected.
+pub fn run() -> bool {
+    let one_tap = Lowpass::new(0.25, 1.0, DesignWindow::Hann, 1);
+    let answers = [
+        bessel_i0(0.0) == 1.0,
+        kaiserord(8.0, 1.0, 1.0) == Ok((3, 0.0)),
+        kaiserord(60.0, -100.0, -8000.0).is_ok_and(|(n, _)| n == 293),
+        halfband_len(-100.0, 60.0, -8000.0) == Ok(295),
+        rrc_len(1024, 32) == Ok(32769),
+        rrc_len(1, 4).is_err(),
+        one_tap.is_ok_and(|lowpass| lowpass.tap(0) == 1.0 && lowpass.divisor() == 0.5),
+        Lowpass::new(0.25, 1.0, DesignWindow::Hann, 2).is_err(),
+        (MIN_CHANNELS, MAX_CHANNELS) == (4, 256),
+    ];
+    let right = answers.iter().filter(|&&answer| answer).count();
+    println!("the Rust files: {right} of {} known answers", answers.len());
+    right == answers.len()
+}
