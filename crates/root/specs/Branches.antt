@@ -1,20 +1,19 @@
 -- What each branch of `sqrt` answers, from the tests that lead to it.
 use mathlib.Core.Path.{_≡_, refl, sym, _∙_}
-use mathlib.Core.Bool.{Bool, true, false, not, _&&_, _||_, Bool·beq, true≢false}
+use mathlib.Core.Bool.{Bool, true, false, _&&_, _||_, Bool·beq, true≢false}
 use Prim.Native.Nat.{ℕ, zero, suc, _*_, _/_, _%_, _^_, _≤_, _<_}
 use native.Mathlib.Nat.{zero-lt-suc, le-of-eq, mul-pos}
 use native.Mathlib.Omega.{arith}
 use borrow.Author.Tests.{ltb-true, ltb-false, eqb-true, eq-eqb}
 use lib.Dec.{T, eqb}
 use lib.IntN.{ℤ}
-use lib.Ieee.{Float, nan, inf, fin, binary64, toBits, ofBits, nanBits, fits, lt, eq, isNan, up, down}
-use lib.Ieee.Bits.{ofBits-fits, nanBits-is}
+use lib.Ieee.{Float, nan, inf, fin, binary64, toBits, ofBits, fits, lt, eq, up, down}
+use lib.Ieee.Bits.{ofBits-fits}
 use lib.Ieee.Fits.{up-pos}
-use lib.Ieee.Scale.{finite}
 use Rattle.laws.specs.Units.{nought}
 use Rattle.root.specs.Sqrt.{sqrtOf}
 use Rattle.root.specs.Patterns.{magOf, bits-in, written}
-use Rattle.root.specs.Nearest.{RootBits, result}
+use Rattle.root.specs.Nearest.{RootBits}
 use Rattle.root.specs.Laws.{rooted, sqrt-only}
 
 never : {A : Type 0} → false ≡ true → A
@@ -36,22 +35,10 @@ split P p (fin false zero e) a b = absurd (no (down e) (up e) (ltb-true (0 * dow
     no d u h = omega arith
 split P p (fin false (suc m) e) a b = p m e
 
-pub no-nan : (x : Float) → lt nought x ≡ true → lt x (inf false) ≡ true → T (not (isNan x))
-no-nan = split (λ x. T (not (isNan x))) (λ m e. unfold isNan in tt)
-
 -- the pattern of x is one that `sqrt_bits` takes
 pub asked : (x : Float) → lt nought x ≡ true → lt x (inf false) ≡ true → T (fits binary64 x)
     → (0 < toBits binary64 x) × (toBits binary64 x < 2047 * 2 ^ 52)
 asked = split (λ x. T (fits binary64 x) → (0 < toBits binary64 x) × (toBits binary64 x < 2047 * 2 ^ 52)) bits-in
-
-pub no-nan-bits : (X r : ℕ) → RootBits X r → T (not (nanBits binary64 r))
-unfolding isNan
-no-nan-bits X r c = rw (nanBits-is binary64 r) (go (ofBits binary64 r) (result X r c .is-finite))
-  where
-    go : (x : Float) → T (finite x) → T (not (isNan x))
-    go nan u = absurd u
-    go (inf s) u = tt
-    go (fin s m e) u = tt
 
 pub at-positive : (r : ℕ) (x : Float) → lt nought x ≡ true → lt x (inf false) ≡ true → T (fits binary64 x)
     → RootBits (magOf (toBits binary64 x / 2 ^ 52) (toBits binary64 x % 2 ^ 52)) r → ofBits binary64 r ≡ sqrtOf x

@@ -12,9 +12,9 @@ use lib.Ieee.Bits.{ofBits-fits}
 use lib.Ieee.Fits.{nan-fits}
 use Rattle.laws.specs.Units.{mag, digits}
 use Rattle.root.specs.Sqrt.{NearestRoot, SqrtOf, rootPattern, sqrtOf}
-use Rattle.root.specs.Numbers.{lt-or-le}
+use Rattle.laws.specs.Numbers.{lt-or-le}
 use Rattle.root.specs.Nearest.{RootBits, result, nearest}
-use Rattle.root.specs.Values.{same-value, mag-lt, mag-pos}
+use Rattle.laws.specs.Values.{same-value, mag-lt, mag-pos}
 use Rattle.root.specs.Worked.{worked}
 
 -- two values that are nearest have one magnitude

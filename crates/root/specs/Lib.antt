@@ -1,10 +1,12 @@
 pub mod Sqrt
-pub mod Numbers
 pub mod WholeRoot
 pub mod Digits
 pub mod Middles
-pub mod Values
 pub mod Patterns
+pub mod NoNan
+pub mod Rounded
+pub mod Square
+pub mod Settled
 pub mod Nearest
 pub mod Scaling
 pub mod Worked

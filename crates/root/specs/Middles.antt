@@ -6,7 +6,7 @@ use Prim.Native.Nat.{ℕ, suc, _+_, _-_, _*_, _^_, _≤_, _<_}
 use native.Mathlib.Nat.{le-trans, le-of-eq, lt-of-le-of-lt, lt-of-lt-of-le, eq-or-lt-of-le, mul-assoc, mul-pos, mul-le-mul, mul-le-mul-right, mul-mul-mul-comm, mul-lt-mul-of-pos-right, lt-of-mul-lt-mul-right, pow-suc}
 use native.Mathlib.Omega.{arith}
 use lib.Pow.{pow-add, pow-pos, pow-mono}
-use Rattle.root.specs.Numbers.{lt-or-le, pow-split}
+use Rattle.laws.specs.Numbers.{lt-or-le, pow-split}
 
 -- a value of 53 digits is a multiple of c units, a power of two, or less than 2 ^ 52 times c
 pub data Step (Y c : ℕ) : Type 0 where

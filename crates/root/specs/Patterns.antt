@@ -15,7 +15,7 @@ use lib.Ieee.Exact.{HasValue, odd-sign}
 use lib.Ieee.Fits.{kept-lt}
 use lib.Ieee.Scale.{finite}
 use Rattle.laws.specs.Units.{mag, isNeg, mag-of-value}
-use Rattle.root.specs.Values.{bitsOf, to-bits, mag-lt, mag-pos}
+use Rattle.laws.specs.Values.{bitsOf, to-bits, mag-lt, mag-pos}
 
 -- x is finite, with a clear sign and a magnitude of w units
 pub record Value (x : Float) (w : ℕ) : Type 0 where

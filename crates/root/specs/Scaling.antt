@@ -4,8 +4,8 @@ use Prim.Native.Nat.{ℕ, zero, suc, _+_, _-_, _*_, _/_, _%_, _^_, _≤_, _<_}
 use native.Mathlib.Nat.{le-refl, lt-irrefl, add-comm, mul-assoc, mul-le-mul-right, pow-suc, pow-succ'}
 use native.Mathlib.Omega.{arith}
 use lib.Pow.{pow-add}
-use Rattle.root.specs.Numbers.{pow-under}
-use Rattle.root.specs.WholeRoot.{Root}
+use Rattle.laws.specs.Numbers.{pow-under}
+use Rattle.root.specs.Rounded.{HalfRoot}
 use Rattle.root.specs.Patterns.{magOf}
 use Rattle.root.specs.Nearest.{RootBits}
 
@@ -26,20 +26,20 @@ pub record Normal (X m g : ℕ) : Type 0 where
   pub high : g ≤ 1024
 
 -- ---- the pattern
-pub finished : (m g q : ℕ) → 2 ^ 52 ≤ m → m < 2 ^ 54 → g % 2 ≡ 0 → 972 ≤ g → g ≤ 3069 → Root q (m * 2 ^ 54)
-    → Finished m g ((g / 2 - 1) * 2 ^ 52 + (q + 1) / 2)
-finished m g q a b e c d R = record {
+pub finished : (m g r : ℕ) → 2 ^ 52 ≤ m → m < 2 ^ 54 → g % 2 ≡ 0 → 972 ≤ g → g ≤ 3069 → HalfRoot m r
+    → Finished m g ((g / 2 - 1) * 2 ^ 52 + r)
+finished m g r a b e c d R = record {
   root-of = λ X s. record {
     m = m;
     h = g / 2;
-    q = q;
+    q = R .q;
     scaled = ap (λ (z : ℕ). m * 2 ^ z) (even g e) ∙ s .same;
     least = a;
     most = b;
-    root = R;
+    root = R .root;
     above = omega arith;
     below = omega arith;
-    made = refl;
+    made = ap (λ (z : ℕ). (g / 2 - 1) * 2 ^ 52 + z) (R .half);
   };
 }
   where
@@ -70,8 +70,11 @@ doubled {X} {m} {g} h s = record {
     back : (g : ℕ) → 0 < g → suc (g - 1) ≡ g
     back g h = omega arith
 
-pub finished-doubled : {m g r : ℕ} → 0 < g → Finished (m * 2) (g - 1) r → Finished m g r
-finished-doubled h f = record { root-of = λ X s. f .root-of X (doubled h s) }
+pub finished-same : {m g d k r : ℕ} → d ≡ m → k ≡ g → Finished d k r → Finished m g r
+finished-same e h f = rw (e, h) at f
+
+pub finished-doubled : {m g d k r : ℕ} → d ≡ m * 2 → k ≡ g - 1 → 0 < g → Finished d k r → Finished m g r
+finished-doubled e h l f = let f' = rw (e, h) at f in record { root-of = λ X s. f' .root-of X (doubled l s) }
 
 -- ---- the loop that brings the leading digit of a subnormal value into place: after 1024 - k doublings
 pub record Scaling (X a k : ℕ) : Type 0 where

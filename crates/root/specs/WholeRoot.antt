@@ -8,7 +8,7 @@ use lib.Dec.{T, leb, leb→le, nleb→lt}
 use lib.Ieee.{size}
 use lib.Ieee.Digits.{size-lt}
 use Rattle.root.specs.Sqrt.{rootBy, wholeRoot}
-use Rattle.root.specs.Numbers.{lt-or-le}
+use Rattle.laws.specs.Numbers.{lt-or-le}
 
 -- q is the greatest whole number whose square is not above n
 pub record Root (q n : ℕ) : Type 0 where

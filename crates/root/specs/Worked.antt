@@ -8,7 +8,7 @@ use lib.Pow.{pow-add, pow-pos, pow-mono, shl-lt}
 use lib.Ieee.{size}
 use lib.Ieee.Digits.{size-lt, size-reaches, size-le}
 use Rattle.root.specs.Sqrt.{wholeRoot, rootPattern}
-use Rattle.root.specs.Numbers.{pow-split}
+use Rattle.laws.specs.Numbers.{pow-split}
 use Rattle.root.specs.WholeRoot.{whole-root}
 use Rattle.root.specs.Nearest.{RootBits}
 

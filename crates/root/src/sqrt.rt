@@ -1,14 +1,12 @@
 // The square root, by the bit pattern of its operand.
-use crate::digits::root;
+use crate::format::LEAD;
+use crate::rounded::rounded;
 ghost use mathlib.Core.Path.{_≡_};
 ghost use Prim.Native.Nat.{_/_, _%_, _*_, _^_, _<_, _≤_};
 ghost use Rattle.root.specs.Sqrt.{sqrtOf};
 ghost use Rattle.root.specs.Patterns.{magOf};
 ghost use Rattle.root.specs.Nearest.{RootBits};
 ghost use Rattle.root.specs.Scaling.{Finished, Normal};
-
-// 2 ^ 52: the weight of the exponent's field, and of a significand's leading digit.
-const LEAD: u64 = 0x10_0000_0000_0000;
 
 // A value as m * 2 ^ g, in parts of 2 ^ -1024 of the smallest f64.
 struct Scaled {
@@ -30,25 +28,23 @@ fn normal(d: u64) -> Scaled
     Scaled { m: a, g: k }
 }
 
-// The pattern of the root of the value that m and an even g stand for. The root has half the exponent, and one digit more than the pattern holds, by which it is rounded.
+// The pattern of the root of the value that m and an even g stand for. The root has half the exponent.
 fn pattern(m: u64, g: u64) -> u64
     requires { ⌜ 2 ^ 52 ≤ m ⌝ ∗ ⌜ m < 2 ^ 54 ⌝ ∗ ⌜ g % 2 ≡ 0 ⌝ ∗ ⌜ 972 ≤ g ⌝ ∗ ⌜ g ≤ 3069 ⌝ }
     ensures { λ r. ⌜ Finished m g r ⌝ }
 {
-    let q = root(m);
-    (g / 2 - 1) * LEAD + (q + 1) / 2
+    let r = rounded(m);
+    (g / 2 - 1) * LEAD + r
 }
 
-// The same where g may be odd, and m has one digit less.
+// The same where g may be odd, and m has one digit less. One call for both, so that the processor has no branch to foretell.
 fn finish(m: u64, g: u64) -> u64
     requires { ⌜ 2 ^ 52 ≤ m ⌝ ∗ ⌜ m < 2 ^ 53 ⌝ ∗ ⌜ 972 ≤ g ⌝ ∗ ⌜ g ≤ 3069 ⌝ }
     ensures { λ r. ⌜ Finished m g r ⌝ }
 {
-    if g % 2 == 0 {
-        pattern(m, g)
-    } else {
-        pattern(m * 2, g - 1)
-    }
+    let odd = g % 2;
+    let d = if odd == 0 { m } else { m * 2 };
+    pattern(d, g - odd)
 }
 
 // The pattern of the root of the finite value above 0 whose pattern is b.

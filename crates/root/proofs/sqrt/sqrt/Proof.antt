@@ -4,7 +4,9 @@ use Prim.Native.Nat.{_/_, _%_, _^_}
 use lib.Dec.{T}
 use lib.Ieee.{binary64, fits, ofBits, toBits, div}
 use Rattle.root.specs.Patterns.{magOf}
-use Rattle.root.specs.Branches.{no-nan, asked, no-nan-bits, at-positive, at-top, at-zero, below-zero}
+use Rattle.root.specs.NoNan.{finite-bits, below-no-nan}
+use Rattle.root.specs.Nearest.{pattern-lt}
+use Rattle.root.specs.Branches.{asked, at-positive, at-top, at-zero, below-zero}
 use Rattle.root.proofs.sqrt.sqrt.Statement.{statement}
 use Rattle.root.proofs.sqrt.sqrt.Tie as tie
 
@@ -12,8 +14,7 @@ held : (c : tie.Start) → T (fits binary64 (c .args .x))
 held c = subst T (sym (c .good .0 .1)) tt
 
 float-to-bits-b : tie.Need-float-to-bits-b
-unfolding ofBits div
-float-to-bits-b c = no-nan (c .before .before .args .x) (c .before .if1 .taken) (c .if2 .taken)
+float-to-bits-b c = below-no-nan (c .before .before .args .x) _ (c .if2 .taken)
 
 sqrt-bits-requires : tie.Need-sqrt-bits-requires
 unfolding ofBits div
@@ -24,7 +25,7 @@ sqrt-bits-requires c κs =
 float-from-bits-result : tie.Need-float-from-bits-result
 float-from-bits-result c =
     let b = toBits binary64 (c .before .before .before .args .x) in
-    no-nan-bits (magOf (b / 2 ^ 52) (b % 2 ^ 52)) (c .sqrt-bits .result) (c .sqrt-bits .ensures)
+    finite-bits (c .sqrt-bits .result) (pattern-lt (magOf (b / 2 ^ 52) (b % 2 ^ 52)) (c .sqrt-bits .result) (c .sqrt-bits .ensures))
 
 returns : tie.Need-returns
 unfolding ofBits div
