@@ -8,10 +8,14 @@ pub mod Binary64
 pub mod Rounding
 pub mod Units
 pub mod Values
+pub mod Patterns
+pub mod Compared
 pub mod Operations
 pub mod Floor
 pub mod WholeValues
 pub mod AtMost
+pub mod WholeUnits
+pub mod WholeSums
 pub mod SumError
 pub mod Sums
 pub mod Quotients

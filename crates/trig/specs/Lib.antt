@@ -1,2 +1,3 @@
 pub mod Trig
 pub mod Laws
+pub mod Modulo

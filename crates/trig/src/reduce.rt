@@ -23,17 +23,15 @@ pub(crate) struct Reduced {
     pub rest: f64,
 }
 
-// k modulo 4, for a whole number k that fits a u64.
+// 3 · 2^51, a multiple of 4 in the middle of the f64s whose last digit is worth 1.
+const MIDDLE: f64 = 6755399441055744.0;
+
+// k modulo 4, for a whole number k of a size up to 2^50. The sum is exact and lies between 2^52 and 2^53, so the last bit of its pattern is worth 1 and the last two are what it leaves when divided by 4, on either side of zero.
 fn modulo_4(k: f64) -> u64
     requires { ⌜ Small k ⌝ }
     ensures { λ r. ⌜ r ≡ modulo4 (floorZ k) ⌝ }
 {
-    if k < 0.0 {
-        let t = std::num::truncating_f64_to_u64(-k);
-        (4 - t % 4) % 4
-    } else {
-        std::num::truncating_f64_to_u64(k) % 4
-    }
+    f64::to_bits(k + MIDDLE) % 4
 }
 
 // x as quarter turns, modulo 4, and the rest.
@@ -41,7 +39,7 @@ pub(crate) fn reduce(x: f64) -> Reduced
     requires { ⌜ T (le (absOf x) limit) ⌝ }
     ensures { λ r. ⌜ (r .quadrant ≡ quadrant x) × (r .rest ≡ rest x) ⌝ }
 {
-    let k = whole::floor::floor(x * (2.0 / PI) + 0.5);
+    let k = whole::floor::floor_small(x * (2.0 / PI) + 0.5);
     let q = modulo_4(k);
     Reduced {
         quadrant: q,

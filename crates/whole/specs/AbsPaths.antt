@@ -1,44 +1,39 @@
--- What each path of `fabs` rests on. Assumes nothing.
-use mathlib.Core.Path.{_≡_, refl, sym, _∙_, subst}
-use Prim.Native.Nat.{ℕ, _*_}
-use native.Mathlib.Nat.{mul-one, zero-mul}
-use mathlib.Core.Bool.{true, false, _||_, Bool·beq, true≢false, false≢true}
-use borrow.Author.Tests.{eq-eqb}
-use lib.Dec.{T, eqb, eqb→eq}
-use lib.Ieee.{Float, nan, inf, fin, binary64, up, down, neg, lt, eq, fits}
-use lib.Ieee.Fits.{and-l}
-use lib.Ieee.Back.{whole-unique}
-use Rattle.laws.specs.Units.{nought, nought-fits}
+-- What each path of `fabs` rests on: the pattern of a value without the bit of its sign is the pattern of its size. Assumes nothing.
+use mathlib.Core.Path.{_≡_, refl, sym, ap, _∙_, subst}
+use mathlib.Core.Bool.{Bool, true, false, not}
+use Prim.Native.Nat.{_%_, _^_}
+use lib.Dec.{T}
+use lib.Ieee.{Float, nan, inf, fin, binary64, ofBits, toBits, fits, ne, isNan, nanBits}
+use lib.Ieee.Bits.{ofBits-toBits, nanBits-is}
+use Rattle.laws.specs.Patterns.{unsigned-bits}
+use Rattle.laws.specs.Tests.{ne-self, is-nan, fails}
 use Rattle.whole.specs.Whole.{absOf}
 use Rattle.whole.specs.Laws.{abs-fits}
-use Rattle.whole.specs.Signs.{never-below, not-below}
 
-pub below-zero : (x : Float) → lt x nought ≡ true → neg x ≡ absOf x
-unfolding lt neg absOf
-below-zero nan a = absurd (false≢true a)
-below-zero (inf true) a = refl
-below-zero (inf false) a = absurd (false≢true a)
-below-zero (fin true m e) a = refl
-below-zero (fin false m e) a = absurd (never-below m e a)
+-- ---- the test for a NaN
+pub at-nan : (x : Float) → ne x x ≡ true → x ≡ absOf x
+unfolding absOf
+at-nan x a = let e = is-nan x (sym (ne-self x) ∙ a) in e ∙ ap absOf (sym e)
 
--- a zero fits with one exponent only
-pub at-zero : (x : Float) → T (fits binary64 x) → eq x nought ≡ true → nought ≡ absOf x
-unfolding eq absOf
-at-zero nan f a = absurd (false≢true a)
-at-zero (inf s) f a = absurd (false≢true a)
-at-zero (fin s m e) f a =
-    let n = m * up e * 1 in
-    let h : n ≡ 0 * down e = eqb→eq n (0 * down e) (and-l (eqb n (0 * down e)) (Bool·beq s false || eqb n 0) (subst T (sym a) tt)) in
-    whole-unique binary64 nought (fin false m e) false 0 (nought-fits binary64) (abs-fits (fin s m e) f) (refl, refl) (refl, h)
+pub is-number : (x : Float) → ne x x ≡ false → T (not (isNan x))
+is-number x a = fails (sym (ne-self x) ∙ a)
 
--- what is neither below zero nor zero has no sign to lose: with a sign it would be a zero
-pub above-zero : (x : Float) → lt x nought ≡ false → eq x nought ≡ false → x ≡ absOf x
-unfolding lt eq absOf
-above-zero nan a b = refl
-above-zero (inf true) a b = absurd (true≢false a)
-above-zero (inf false) a b = refl
-above-zero (fin false m e) a b = refl
-above-zero (fin true m e) a b =
-    let n = m * up e * 1 in
-    let h : n ≡ 0 * down e = mul-one (m * up e) ∙ not-below m e a in
-    absurd (true≢false (rw (eq-eqb n (0 * down e) h, eq-eqb n 0 (h ∙ zero-mul (down e))) at b))
+-- ---- the pattern without its sign, made a value again
+without : (x : Float) → T (fits binary64 x) → T (not (isNan x)) → toBits binary64 x % 2 ^ 63 ≡ toBits binary64 (absOf x)
+unfolding absOf isNan
+without nan t a = absurd a
+without (inf true) t a = unfold toBits in refl
+without (inf false) t a = unfold toBits in refl
+without (fin s m e) t a = unsigned-bits binary64 s m e t
+
+pub without-sign : (x : Float) → T (fits binary64 x) → ne x x ≡ false → ofBits binary64 (toBits binary64 x % 2 ^ 63) ≡ absOf x
+without-sign x t a = ap (ofBits binary64) (without x t (is-number x a)) ∙ ofBits-toBits binary64 (absOf x) (abs-fits x t)
+
+abs-number : (x : Float) → T (not (isNan x)) → T (not (isNan (absOf x)))
+unfolding absOf isNan
+abs-number nan a = a
+abs-number (inf s) a = tt
+abs-number (fin s m e) a = tt
+
+pub made : (x : Float) → T (fits binary64 x) → ne x x ≡ false → T (not (nanBits binary64 (toBits binary64 x % 2 ^ 63)))
+made x t a = subst (λ (b : Bool). T (not b)) (sym (nanBits-is binary64 (toBits binary64 x % 2 ^ 63) ∙ ap isNan (without-sign x t a))) (abs-number x (is-number x a))

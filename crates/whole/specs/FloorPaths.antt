@@ -1,4 +1,4 @@
--- What each path of `floor` rests on. Assumes nothing.
+-- What each path of `floor_wide` rests on. Assumes nothing.
 use mathlib.Core.Path.{_≡_, refl, sym, ap, _∙_}
 use Prim.Native.Nat.{ℕ, zero, suc, _+_, _-_, _*_, _/_, _%_, _^_, _≤_, _<_, min}
 use native.Mathlib.Nat.{le-antisymm, div-mul-le-self, le-trans, le-of-eq, le-of-lt, lt-of-le-of-lt, mul-one, mul-right-comm, mul-lt-mul-of-pos-right, mul-le-mul-right, div-lt-iff-lt-mul, div-add-mod', mod-lt}

@@ -2,15 +2,14 @@
 ghost use mathlib.Core.Path.{_≡_};
 ghost use Rattle.whole.specs.Whole.{absOf};
 
-// A comparison does not tell -0 from 0, so both give 0.
+// The highest bit of the pattern is the sign, and the rest is the pattern of the size: what is left by 2^63. So no branch turns on the sign, which would be guessed wrong half of the time. A NaN has no pattern of its own and comes back as it is.
 pub fn fabs(x: f64) -> f64
     ensures { λ r. ⌜ r ≡ absOf x ⌝ }
 {
-    if x < 0.0 {
-        -x
-    } else if x == 0.0 {
-        0.0
-    } else {
+    if x != x {
         x
+    } else {
+        let bits = f64::to_bits(x);
+        f64::from_bits(bits % 9223372036854775808)
     }
 }

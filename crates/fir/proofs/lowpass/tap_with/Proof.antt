@@ -1,0 +1,30 @@
+-- `fir::lowpass::tap_with` meets its contract. Assumes nothing.
+use borrow.Author.Needs.{needs}
+use mathlib.Core.Path.{_≡_, refl, sym, ap, _∙_}
+use lib.Ieee.{ofBits, ofInt}
+use borrow.Author.Tests.{lt-ltb, le-ltb}
+use Rattle.fir.specs.Lowpass.{tapWith}
+use Rattle.fir.proofs.lowpass.tap_with.Statement.{statement}
+use Rattle.fir.proofs.lowpass.tap_with.Tie as tie
+
+raw-at-requires : tie.Need-raw-at-requires
+raw-at-requires c κs = search needs
+
+returns : tie.Need-returns
+unfolding tapWith ofInt ofBits
+returns c = sym (rw (lt-ltb 16777216 (c .before .args .lp .n) (c .if1 .taken)))
+
+returns-2 : tie.Need-returns-2
+unfolding tapWith ofInt ofBits
+returns-2 c =
+    let at = c .before .before .before .before .args in
+    rw (c .before .raw-at .ensures) (sym (rw (le-ltb 16777216 (at .lp .n) (c .before .before .before .if1 .left), lt-ltb (at .i) (at .lp .n) (c .before .before .if2 .taken))))
+
+returns-3 : tie.Need-returns-3
+unfolding tapWith ofInt ofBits
+returns-3 c =
+    let at = c .before .before .args in
+    sym (rw (le-ltb 16777216 (at .lp .n) (c .before .if1 .left), le-ltb (at .i) (at .lp .n) (c .if2 .left)))
+
+pub tap-with-spec : {M : Type 1} → statement M
+tap-with-spec = tie.close (tie.spec returns raw-at-requires returns-2 returns-3)

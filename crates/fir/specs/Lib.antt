@@ -1,0 +1,5 @@
+pub mod Delay
+pub mod Windows
+pub mod Lowpass
+pub mod LowpassLaws
+pub mod Spec

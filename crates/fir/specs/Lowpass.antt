@@ -1,0 +1,109 @@
+-- The windowed-sinc low-pass of n taps with the cutoff fc, a fraction of the rate. Definitions only.
+--   h[i] = 2 fc sinc(2 fc (i − m)) w[i],  m = (n − 1)/2,  sinc x = sin(π x)/(π x),  sinc 0 = 1;  tap i is h[i] / Σ h
+use Prim.Native.Nat.{ℕ, _-_}
+use mathlib.Core.Path.{_≡_}
+use mathlib.Core.Bool.{Bool, true, cond, _&&_}
+use mathlib.Core.List.{List}
+use lib.Dec.{ltb, leb}
+use lib.ListN.{length}
+use lib.Ieee.{Float, binary64, lt, le, eq, ne}
+use lib.Ieee.Scale.{finite}
+use Rattle.laws.specs.Binary64.{_⊖_, _⊗_, _⊘_, whole, fraction, pi}
+use Rattle.laws.specs.Filled.{tabulate}
+use Rattle.laws.specs.Sums.{sumTo}
+use Rattle.numbers.specs.Numbers.{positive}
+use Rattle.refusal.specs.declared.Refusal.the-variants.{Plain, Range}
+use Rattle.trig.specs.Trig.{sinOf}
+use Rattle.fir.specs.Windows.{normOf, windowAt}
+use Rattle.fir.specs.declared.window.Window.{Window}
+use Rattle.fir.specs.declared.window.Window.the-variants.{Hann, Hamming, Blackman, Kaiser}
+use Rattle.fir.specs.declared.lowpass.Lowpass.{Lowpass}
+use Rattle.fir.specs.declared.lowpass.Designed.{Designed}
+use Rattle.fir.specs.declared.lowpass.Designed.the-variants.{Ready, Refused}
+use Rattle.fir.specs.declared.lowpass.Prepared.{Prepared}
+use Rattle.fir.specs.declared.lowpass.Filled.{Filled}
+use Rattle.fir.specs.declared.lowpass.Filled.the-variants as Filled
+
+-- ---- the raw taps
+unfoldable pub sinc : Float → Float
+sinc x = cond (eq x (whole 0)) (whole 1) (sinOf (pi ⊗ x) ⊘ (pi ⊗ x))
+
+-- the middle of n taps
+unfoldable pub centre : ℕ → Float
+centre n = whole (n - 1) ⊘ whole 2
+
+-- h[i], i0 being the series at the window's beta
+unfoldable pub rawAt : Float → Window → Float → ℕ → ℕ → Float
+unfolding sinc centre
+rawAt fc w i0 n i = whole 2 ⊗ fc ⊗ sinc (whole 2 ⊗ fc ⊗ (whole i ⊖ centre n)) ⊗ windowAt w i0 n i
+
+-- the last divisor: the sum of the raw taps by rising index
+unfoldable pub divisorOf : Float → Window → ℕ → Float
+divisorOf fc w n = sumTo binary64 (rawAt fc w (normOf w) n) n
+
+-- ---- the judgement
+unfoldable pub inside : Float → Bool
+inside fc = lt (whole 0) fc && lt fc (fraction 1 2)
+
+unfoldable pub countTaken : ℕ → Bool
+countTaken n = ltb 0 n && leb n 16777216
+
+unfoldable pub betaTaken : Window → Bool
+betaTaken Hann = true
+betaTaken Hamming = true
+betaTaken Blackman = true
+betaTaken (Kaiser beta) = finite beta && le (whole 0) beta
+
+unfoldable pub usable : Float → Bool
+usable s = finite s && ne s (whole 0)
+
+-- a ticket is accepted where the answer is `Ready`
+unfoldable pub lowpassOf : Float → Float → Window → ℕ → Designed
+unfolding divisorOf inside countTaken betaTaken usable
+lowpassOf cutoff rate w n =
+    let fc = cutoff ⊘ rate in
+    let sum = divisorOf fc w n in
+    cond (positive rate)
+    (cond (inside fc)
+    (cond (countTaken n)
+    (cond (betaTaken w)
+    (cond (usable sum)
+    (Ready (record { n = n; fc = fc; window = w; sum = sum }))
+    (Refused (Plain 10)))
+    (Refused (Plain 4)))
+    (Refused (Plain 6)))
+    (Refused (Range 2 (whole 0) (rate ⊘ whole 2) cutoff)))
+    (Refused (Plain 1))
+
+-- an answer that is the design d and, where it is one, the series at its beta
+pub record Prepares (d : Designed) (r : Prepared) : Type 0 where
+  pub is : r .designed ≡ d
+  pub kept : (l : Lowpass) → r .designed ≡ Ready l → r .i0 ≡ normOf (l .window)
+
+-- ---- the taps
+-- tap i of a design; 0 past the last one, and for a record that no design gives
+unfoldable pub tapWith : Lowpass → Float → ℕ → Float
+unfolding rawAt
+tapWith l i0 i = cond (ltb 16777216 (l .n)) (whole 0) (cond (ltb i (l .n)) (rawAt (l .fc) (l .window) i0 (l .n) i ⊘ l .sum) (whole 0))
+
+unfoldable pub tapOf : Lowpass → ℕ → Float
+unfolding tapWith
+tapOf l i = tapWith l (normOf (l .window)) i
+
+unfoldable pub tapsOf : Lowpass → Float → ℕ → List Float
+unfolding tapWith
+tapsOf l i0 n = tabulate n (tapWith l i0)
+
+-- ---- a buffer: filled, or as it came
+abbrev pub answered : Designed → Filled
+answered (Ready l) = Filled.Done
+answered (Refused why) = Filled.Refused why
+
+abbrev pub stored : Designed → List Float → List Float
+stored (Ready l) d = tabulate (length d) (tapOf l)
+stored (Refused why) d = d
+
+-- what the answer and the buffer are after the design d
+pub record Fills (d : Designed) (before : List Float) (r : Filled) (after : List Float) : Type 0 where
+  pub answer : r ≡ answered d
+  pub buffer : after ≡ stored d before

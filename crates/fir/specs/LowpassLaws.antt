@@ -1,0 +1,101 @@
+-- Each outcome of the judgement of a low-pass, from what the tests said. Assumes nothing.
+use mathlib.Core.Path.{_≡_, sym, ap, _∙_, subst}
+use mathlib.Core.Bool.{Bool, true, false, _&&_, true≢false}
+use mathlib.Core.List.{List}
+use Prim.Native.Nat.{ℕ, _≤_}
+use native.Mathlib.Omega.{arith}
+use borrow.Author.Tests.{ltb-true, leb-true}
+use lib.Dec.{ltb, leb}
+use lib.ListN.{length}
+use lib.Ieee.{Float}
+use Rattle.laws.specs.Binary64.{_⊘_, whole}
+use Rattle.laws.specs.Filled.{tabulate}
+use Rattle.numbers.specs.Numbers.{positive}
+use Rattle.refusal.specs.declared.Refusal.{Refusal}
+use Rattle.refusal.specs.declared.Refusal.the-variants.{Plain, Range}
+use Rattle.fir.specs.Windows.{normOf}
+use Rattle.fir.specs.Lowpass.{divisorOf, inside, countTaken, betaTaken, usable, lowpassOf, Prepares, tapWith, tapOf, tapsOf, answered, stored, Fills}
+use Rattle.fir.specs.declared.window.Window.{Window}
+use Rattle.fir.specs.declared.lowpass.Lowpass.{Lowpass}
+use Rattle.fir.specs.declared.lowpass.Designed.{Designed}
+use Rattle.fir.specs.declared.lowpass.Designed.the-variants.{Ready, Refused}
+use Rattle.fir.specs.declared.lowpass.Prepared.{Prepared}
+use Rattle.fir.specs.declared.lowpass.Filled.{Filled}
+use Rattle.fir.specs.declared.lowpass.Filled.the-variants as Filled
+
+-- a count that is taken is at most 2^24
+pub count-most : (n : ℕ) → countTaken n ≡ true → n ≤ 16777216
+unfolding countTaken
+count-most n h = go (ltb 0 n) (leb n 16777216) (leb-true n 16777216) h
+  where
+    go : (a b : Bool) → (b ≡ true → n ≤ 16777216) → a && b ≡ true → n ≤ 16777216
+    go true b k h = k h
+    go false b k h = absurd (true≢false (sym h))
+
+-- a refusal is no design
+never : (why : Refusal) (l : Lowpass) → Refused why ≡ Ready l → ⊥
+never why l g = let z : _≡_ {A = ℕ} 0 1 = cc in omega arith
+
+module _ (cutoff rate : Float) (w : Window) (n : ℕ) where
+  -- what the tests so far said
+  module _ (a : positive rate ≡ true) where
+    module _ (b : inside (cutoff ⊘ rate) ≡ true) where
+      module _ (c : countTaken n ≡ true) where
+        module _ (d : betaTaken w ≡ true) where
+          pub ready : usable (divisorOf (cutoff ⊘ rate) w n) ≡ true → lowpassOf cutoff rate w n ≡ Ready (record { n = n; fc = cutoff ⊘ rate; window = w; sum = divisorOf (cutoff ⊘ rate) w n })
+          unfolding lowpassOf
+          ready e = rw (a, b, c, d, e)
+
+          pub no-divisor : usable (divisorOf (cutoff ⊘ rate) w n) ≡ false → lowpassOf cutoff rate w n ≡ Refused (Plain 10)
+          unfolding lowpassOf
+          no-divisor e = rw (a, b, c, d, e)
+
+        pub no-beta : betaTaken w ≡ false → lowpassOf cutoff rate w n ≡ Refused (Plain 4)
+        unfolding lowpassOf
+        no-beta d = rw (a, b, c, d)
+
+      pub no-count : countTaken n ≡ false → lowpassOf cutoff rate w n ≡ Refused (Plain 6)
+      unfolding lowpassOf
+      no-count c = rw (a, b, c)
+
+    pub no-cutoff : inside (cutoff ⊘ rate) ≡ false → lowpassOf cutoff rate w n ≡ Refused (Range 2 (whole 0) (rate ⊘ whole 2) cutoff)
+    unfolding lowpassOf
+    no-cutoff b = rw (a, b)
+
+  pub no-rate : positive rate ≡ false → lowpassOf cutoff rate w n ≡ Refused (Plain 1)
+  unfolding lowpassOf
+  no-rate a = rw a
+
+  -- a refusal, as an answer
+  pub refuses : (r : Prepared) (why : Refusal) → r .designed ≡ Refused why → lowpassOf cutoff rate w n ≡ Refused why → Prepares (lowpassOf cutoff rate w n) r
+  refuses r why e h = record { is = e ∙ sym h; kept = λ l g. absurd (never why l (sym e ∙ g)) }
+
+  -- a design, as an answer
+  same-window : (l m : Lowpass) → Ready l ≡ Ready m → l .window ≡ m .window
+  same-window l m e = let p : l ≡ m = cc in ap (λ (z : Lowpass). z .window) p
+
+  pub accepts : (s i0 : Float) → s ≡ divisorOf (cutoff ⊘ rate) w n → i0 ≡ normOf w → lowpassOf cutoff rate w n ≡ Ready (record { n = n; fc = cutoff ⊘ rate; window = w; sum = divisorOf (cutoff ⊘ rate) w n })
+      → Prepares (lowpassOf cutoff rate w n) (record { designed = Ready (record { n = n; fc = cutoff ⊘ rate; window = w; sum = s }); i0 = i0 })
+  accepts s i0 e g h = record {
+    is = ap (λ (z : Float). Ready (record { n = n; fc = cutoff ⊘ rate; window = w; sum = z })) e ∙ sym h;
+    kept = λ l k. g ∙ ap normOf (same-window (record { n = n; fc = cutoff ⊘ rate; window = w; sum = s }) l k);
+  }
+
+-- ---- a buffer
+module _ (g : Designed) (d : List Float) where
+  pub fills : (l : Lowpass) (i0 : Float) (after : List Float) → g ≡ Ready l → i0 ≡ normOf (l .window) → after ≡ tapsOf l i0 (length d) → Fills g d Filled.Done after
+  unfolding tapsOf tapOf
+  fills l i0 after h k e = record { answer = sym (ap answered h); buffer = e ∙ ap (λ (z : Float). tabulate (length d) (tapWith l z)) k ∙ sym (ap (λ (z : Designed). stored z d) h) }
+
+  pub leaves : (why : Refusal) → g ≡ Refused why → Fills g d (Filled.Refused why) d
+  leaves why h = record { answer = sym (ap answered h); buffer = sym (ap (λ (z : Designed). stored z d) h) }
+
+-- ---- for an equal design
+pub fills-as : {d e : Designed} {b a : List Float} {r : Filled} → d ≡ e → Fills d b r a → Fills e b r a
+fills-as {d} {e} {b} {a} {r} p f = subst (λ (z : Designed). Fills z b r a) p f
+
+pub prepares-as : {d e : Designed} {r : Prepared} → d ≡ e → Prepares d r → Prepares e r
+prepares-as {d} {e} {r} p f = subst (λ (z : Designed). Prepares z r) p f
+
+pub prepares-refusal : (d : Designed) (why : Refusal) (i0 : Float) → d ≡ Refused why → Prepares d (record { designed = Refused why; i0 = i0 })
+prepares-refusal d why i0 e = record { is = sym e; kept = λ l g. absurd (never why l g) }

@@ -1,0 +1,46 @@
+-- The symmetric windows of n taps, at tap i. Definitions only.
+--   Hann 0.5 − 0.5 cos x,  Hamming 0.54 − 0.46 cos x,  Blackman 0.42 − 0.5 cos x + 0.08 cos 2x,  with x = 2π i/(n − 1)
+--   Kaiser I0(beta √(1 − t²)) / I0(beta),  with t = 2 i/(n − 1) − 1
+use Prim.Native.Nat.{ℕ, _-_}
+use mathlib.Core.Bool.{cond}
+use lib.Dec.{eqb}
+use lib.Ieee.{Float, lt}
+use Rattle.laws.specs.Binary64.{_⊕_, _⊖_, _⊗_, _⊘_, whole, fraction, pi}
+use Rattle.root.specs.Sqrt.{sqrtOf}
+use Rattle.trig.specs.Trig.{cosOf}
+use Rattle.series.specs.Series.{seriesOf}
+use Rattle.fir.specs.declared.window.Window.{Window}
+use Rattle.fir.specs.declared.window.Window.the-variants.{Hann, Hamming, Blackman, Kaiser}
+
+-- the series at beta, by which Kaiser's window is divided; 1 for the others
+unfoldable pub normOf : Window → Float
+normOf Hann = whole 1
+normOf Hamming = whole 1
+normOf Blackman = whole 1
+normOf (Kaiser beta) = seriesOf beta .sum
+
+-- x, and 0 where it is below 0 or NaN
+unfoldable pub notBelow0 : Float → Float
+notBelow0 x = cond (lt (whole 0) x) x (whole 0)
+
+-- the angle x, p being i and d n − 1
+unfoldable pub angle : Float → Float → Float
+angle p d = whole 2 ⊗ pi ⊗ p ⊘ d
+
+-- Kaiser's window, i0 the series at beta
+unfoldable pub kaiserAt : Float → Float → Float → Float → Float
+unfolding notBelow0
+kaiserAt beta i0 p d = let t = whole 2 ⊗ p ⊘ d ⊖ whole 1 in seriesOf (beta ⊗ sqrtOf (notBelow0 (whole 1 ⊖ t ⊗ t))) .sum ⊘ i0
+
+-- two taps at least
+unfoldable pub shapeAt : Window → Float → Float → Float → Float
+unfolding angle kaiserAt
+shapeAt Hann i0 p d = fraction 1 2 ⊖ fraction 1 2 ⊗ cosOf (angle p d)
+shapeAt Hamming i0 p d = fraction 54 100 ⊖ fraction 46 100 ⊗ cosOf (angle p d)
+shapeAt Blackman i0 p d = fraction 42 100 ⊖ fraction 1 2 ⊗ cosOf (angle p d) ⊕ fraction 8 100 ⊗ cosOf (whole 2 ⊗ angle p d)
+shapeAt (Kaiser beta) i0 p d = kaiserAt beta i0 p d
+
+-- one tap has the window 1
+unfoldable pub windowAt : Window → Float → ℕ → ℕ → Float
+unfolding shapeAt
+windowAt w i0 n i = cond (eqb n 1) (whole 1) (shapeAt w i0 (whole i) (whole (n - 1)))

@@ -1,0 +1,228 @@
+// The windowed-sinc low-pass: judged first, then its taps one at a time or into a buffer.
+use super::window::Window;
+use super::window::norm;
+use super::window::window_at;
+use refusal::Refusal;
+ghost use mathlib.Core.Path.{_≡_};
+ghost use Prim.Native.Nat.{_^_, _<_, _≤_};
+ghost use lib.Ieee.{binary64};
+ghost use lib.ListN.{length};
+ghost use Rattle.laws.specs.Sums.{sumTo};
+ghost use Rattle.fir.specs.Windows.{normOf};
+ghost use Rattle.fir.specs.declared.lowpass.Lowpass.{Lowpass};
+ghost use Rattle.fir.specs.Lowpass.{sinc, rawAt, inside, countTaken, betaTaken, usable, lowpassOf, Prepares, tapWith, tapOf, Fills, tapsOf};
+
+const PI: f64 = 3.141592653589793;
+
+// The largest number of taps that a design takes.
+const TAP_LIMIT: u64 = 16777216;
+
+// A design: how many taps, the cutoff as a fraction of the rate, the window, and the sum that the taps are divided by.
+pub struct Lowpass {
+    pub n: u64,
+    pub fc: f64,
+    pub window: Window,
+    pub sum: f64,
+}
+
+// A design, or why not.
+pub enum Designed {
+    Ready(Lowpass),
+    Refused(Refusal),
+}
+
+// A design with the series at its beta, which each tap needs.
+pub struct Prepared {
+    pub designed: Designed,
+    pub i0: f64,
+}
+
+// A filled buffer, or why it is as it came.
+pub enum Filled {
+    Done,
+    Refused(Refusal),
+}
+
+// sin(π x) / (π x), and 1 at 0.
+fn sinc_at(x: f64) -> f64
+    ensures { λ r. ⌜ r ≡ sinc x ⌝ }
+{
+    if x == 0.0 {
+        1.0
+    } else {
+        trig::sin::sin(PI * x) / (PI * x)
+    }
+}
+
+// Tap i of n before the division: 2 fc sinc(2 fc (i − (n − 1)/2)) times the window.
+fn raw_at(fc: f64, w: Window, i0: f64, n: u64, i: u64) -> f64
+    requires { ⌜ n ≤ 2 ^ 24 ⌝ ∗ ⌜ i < n ⌝ }
+    ensures { λ r. ⌜ r ≡ rawAt fc w i0 n i ⌝ }
+{
+    let m = ((n - 1) as f64) / 2.0;
+    let x = 2.0 * fc * ((i as f64) - m);
+    2.0 * fc * sinc_at(x) * window_at(w, i0, n, i)
+}
+
+// The sum of the raw taps, by rising index from +0.
+fn total(fc: f64, w: Window, i0: f64, n: u64) -> f64
+    requires { ⌜ n ≤ 2 ^ 24 ⌝ }
+    ensures { λ r. ⌜ r ≡ sumTo binary64 (rawAt fc w i0 n) n ⌝ }
+{
+    let mut sum = 0.0;
+    let mut i = 0u64;
+    while i < n {
+        sum = sum + raw_at(fc, w, i0, n, i);
+        i += 1;
+    }
+    sum
+}
+
+// Whether a cutoff lies between 0 and half the rate.
+fn is_inside(fc: f64) -> bool
+    ensures { λ r. ⌜ r ≡ inside fc ⌝ }
+{
+    0.0 < fc && fc < 0.5
+}
+
+// Whether a design takes n taps: 1 to 2^24.
+fn takes_count(n: u64) -> bool
+    ensures { λ r. ⌜ r ≡ countTaken n ⌝ }
+{
+    0 < n && n <= TAP_LIMIT
+}
+
+// Whether a window's beta is taken: finite and not negative.
+fn takes_beta(w: Window) -> bool
+    ensures { λ r. ⌜ r ≡ betaTaken w ⌝ }
+{
+    match w {
+        Window::Hann => true,
+        Window::Hamming => true,
+        Window::Blackman => true,
+        Window::Kaiser(beta) => numbers::is_finite(beta) && 0.0 <= beta,
+    }
+}
+
+// Whether taps can be divided by s.
+fn is_usable(s: f64) -> bool
+    ensures { λ r. ⌜ r ≡ usable s ⌝ }
+{
+    numbers::is_finite(s) && s != 0.0
+}
+
+// A refusal in place of a design.
+fn refused(why: Refusal) -> Prepared
+    ensures { λ r. ⌜ r .designed ≡ Designed.Refused why ⌝ }
+{
+    Prepared {
+        designed: Designed::Refused(why),
+        i0: 1.0,
+    }
+}
+
+// The design of a low-pass, with the series at beta. Refused, in this order: 1 a rate that isn't finite and positive; 2 with 0, rate/2, cutoff where cutoff/rate isn't between 0 and 1/2; 6 no taps or more than 2^24; 4 a beta that isn't finite and not negative; 10 a sum of the raw taps that is 0 or not finite.
+pub fn prepare(cutoff: f64, rate: f64, window: Window, n: u64) -> Prepared
+    ensures { λ r. ⌜ Prepares (lowpassOf cutoff rate window n) r ⌝ }
+{
+    if !numbers::is_positive(rate) {
+        return refused(Refusal::Plain(1));
+    }
+    let fc = cutoff / rate;
+    if !is_inside(fc) {
+        return refused(Refusal::Range(2, 0.0, rate / 2.0, cutoff));
+    }
+    if !takes_count(n) {
+        return refused(Refusal::Plain(6));
+    }
+    if !takes_beta(window) {
+        return refused(Refusal::Plain(4));
+    }
+    let i0 = norm(window);
+    let sum = total(fc, window, i0, n);
+    if !is_usable(sum) {
+        return refused(Refusal::Plain(10));
+    }
+    Prepared {
+        designed: Designed::Ready(Lowpass {
+            n: n,
+            fc: fc,
+            window: window,
+            sum: sum,
+        }),
+        i0: i0,
+    }
+}
+
+// Tap i of a design, i0 being the series at its beta; 0 past the last tap, and for a record that no design gives.
+pub fn tap_with(lp: Lowpass, i0: f64, i: u64) -> f64
+    ensures { λ r. ⌜ r ≡ tapWith lp i0 i ⌝ }
+{
+    let n = lp.n;
+    if n > TAP_LIMIT {
+        return 0.0;
+    }
+    if i < n {
+        let w = lp.window;
+        raw_at(lp.fc, w, i0, n, i) / lp.sum
+    } else {
+        0.0
+    }
+}
+
+impl Lowpass {
+    // The design alone; refused as `prepare`.
+    pub fn new(cutoff: f64, rate: f64, window: Window, n: u64) -> Designed
+        ensures { λ r. ⌜ r ≡ lowpassOf cutoff rate window n ⌝ }
+    {
+        let p = prepare(cutoff, rate, window, n);
+        p.designed
+    }
+
+    // How many taps.
+    pub fn len(self) -> u64
+        ensures { λ r. ⌜ r ≡ self .n ⌝ }
+    {
+        self.n
+    }
+
+    // Tap i, divided by the sum.
+    pub fn tap(self, i: u64) -> f64
+        ensures { λ r. ⌜ r ≡ tapOf self i ⌝ }
+    {
+        let w = self.window;
+        tap_with(self, norm(w), i)
+    }
+}
+
+// Fills the buffer with a design's taps, as many as it has elements.
+fn fill(lp: Lowpass, i0: f64, taps: &mut [f64])
+    ensures { λ _. ⌜ now (taps .exit) ≡ tapsOf lp i0 (length (now (taps .entry))) ⌝ }
+{
+    let n = taps.len();
+    for i in 0..n {
+        taps[i] = tap_with(lp, i0, i as u64);
+    }
+}
+
+// Fills the buffer by a design, or leaves it.
+pub(crate) fn finish(p: Prepared, taps: &mut [f64]) -> Filled
+    requires { ⌜ ((l : Lowpass) → p .designed ≡ Designed.Ready l → p .i0 ≡ normOf (l .window)) ⌝ }
+    ensures { λ r. ⌜ Fills (p .designed) (now (taps .entry)) r (now (taps .exit)) ⌝ }
+{
+    let designed = p.designed;
+    match designed {
+        Designed::Ready(lp) => {
+            fill(lp, p.i0, &mut *taps);
+            Filled::Done
+        }
+        Designed::Refused(why) => Filled::Refused(why),
+    }
+}
+
+// The low-pass of as many taps as the buffer has elements; refused as `prepare`, with the buffer as it came. Example: Hann, cutoff 0.25 at rate 1: one tap is 1, two are refused with 10.
+pub fn firwin_lowpass(cutoff: f64, rate: f64, window: Window, taps: &mut [f64]) -> Filled
+    ensures { λ r. ⌜ Fills (lowpassOf cutoff rate window (length (now (taps .entry)))) (now (taps .entry)) r (now (taps .exit)) ⌝ }
+{
+    finish(prepare(cutoff, rate, window, taps.len() as u64), &mut *taps)
+}

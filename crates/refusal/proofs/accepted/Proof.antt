@@ -1,0 +1,13 @@
+-- `refusal::accepted` meets its contract. Assumes nothing.
+use mathlib.Core.Path.{refl}
+use Rattle.refusal.specs.Report.{acceptedOf}
+use lib.Ieee.{ofInt, ofBits}
+use Rattle.refusal.proofs.accepted.Statement.{statement}
+use Rattle.refusal.proofs.accepted.Tie as tie
+
+returns : tie.Need-returns
+unfolding acceptedOf ofInt ofBits
+returns c = refl
+
+pub accepted-spec : {M : Type 1} → statement M
+accepted-spec = tie.close (tie.spec returns)
