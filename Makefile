@@ -6,9 +6,17 @@ CHECKED = -g -O1 -fsanitize=address,undefined -fno-sanitize-recover=all
 LIB = target/staticlib/libborder.a
 SOURCES = $(shell find crates -name '*.rt' -o -name '*.antt') crates.txt
 
-.PHONY: run test lib c compare bench list distance clean
+.PHONY: run functions test lib c compare bench list distance clean
+.SECONDARY:
 
-run: target/tools/functions
+# What `make run` designs; say another one as in: make run ARGS="spec --cutoff 1000 --transition 200 --attenuation 60 --rate 8000"
+ARGS ?= lowpass --cutoff 1000 --rate 8000 --taps 31 --window kaiser --beta 5.65326
+
+run: target/tools/design
+	target/tools/design $(ARGS)
+
+# The elementary functions at a few values.
+functions: target/tools/functions
 	target/tools/functions
 
 test:
@@ -20,15 +28,14 @@ $(LIB): $(SOURCES)
 	mkdir -p target
 	rt staticlib border >target/staticlib.log 2>&1 || { cat target/staticlib.log; exit 1; }
 
-target/tools/functions: tools/functions.c include/peldozkar.h $(LIB)
+target/tools/%: tools/%.c include/peldozkar.h $(LIB)
 	mkdir -p target/tools
 	$(CC) $(CFLAGS) $(STRICT) $< -o $@ $(LIB)
 
 # The exports called from C, under the address and undefined-behaviour sanitizers.
 c: $(LIB)
 	mkdir -p target/tests
-	$(CC) $(STRICT) $(CHECKED) tests/c/elementary.c -o target/tests/elementary $(LIB) -lm
-	target/tests/elementary
+	for name in elementary designs; do $(CC) $(STRICT) $(CHECKED) tests/c/$$name.c -o target/tests/$$name $(LIB) -lm && target/tests/$$name || exit 1; done
 
 # Both sides on the same inputs, by bits; skipped in one line where the Rust files are not at hand.
 compare: $(LIB)

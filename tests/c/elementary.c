@@ -1,41 +1,9 @@
 /* Calls every elementary export from C with good, bad and hostile arguments, and holds the answers to
  * known bits. Each expected value is from the definition, by hand or by the C library where that is
  * exact, never from the functions under test. */
-#include <math.h>
-#include <stdint.h>
-#include <stdio.h>
-#include <string.h>
+#include "expect.h"
 
 #include "peldozkar.h"
-
-static int wrong;
-static int checked;
-
-static uint64_t bits(double x)
-{
-    uint64_t b;
-    memcpy(&b, &x, sizeof b);
-    return b;
-}
-
-static double of_bits(uint64_t b)
-{
-    double x;
-    memcpy(&x, &b, sizeof x);
-    return x;
-}
-
-static void expect(const char *what, double got, double want)
-{
-    checked++;
-    if (bits(got) == bits(want) || (isnan(got) && isnan(want)))
-        return;
-    wrong++;
-    printf("%s gives %.17g (%016llX), not %.17g (%016llX)\n", what, got, (unsigned long long)bits(got), want,
-           (unsigned long long)bits(want));
-}
-
-#define EXPECT(call, want) expect(#call, call, want)
 
 int main(void)
 {
@@ -100,6 +68,5 @@ int main(void)
     EXPECT(pel_floor(nan_value), nan_value);
     EXPECT(pel_floor(huge), huge);
 
-    printf("C: %d answers, %d wrong\n", checked, wrong);
-    return wrong == 0 ? 0 : 1;
+    return tally("elementary functions");
 }

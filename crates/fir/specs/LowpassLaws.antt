@@ -1,8 +1,8 @@
 -- Each outcome of the judgement of a low-pass, from what the tests said. Assumes nothing.
-use mathlib.Core.Path.{_≡_, sym, ap, _∙_, subst}
-use mathlib.Core.Bool.{Bool, true, false, _&&_, true≢false}
+use mathlib.Core.Path.{_≡_, refl, sym, ap, _∙_, subst}
+use mathlib.Core.Bool.{Bool, true, false, cond, _&&_, true≢false}
 use mathlib.Core.List.{List}
-use Prim.Native.Nat.{ℕ, _≤_}
+use Prim.Native.Nat.{ℕ, _≤_, _<_}
 use native.Mathlib.Omega.{arith}
 use borrow.Author.Tests.{ltb-true, leb-true}
 use lib.Dec.{ltb, leb}
@@ -30,6 +30,14 @@ count-most n h = go (ltb 0 n) (leb n 16777216) (leb-true n 16777216) h
   where
     go : (a b : Bool) → (b ≡ true → n ≤ 16777216) → a && b ≡ true → n ≤ 16777216
     go true b k h = k h
+    go false b k h = absurd (true≢false (sym h))
+
+pub count-least : (n : ℕ) → countTaken n ≡ true → 0 < n
+unfolding countTaken
+count-least n h = go (ltb 0 n) (leb n 16777216) (ltb-true 0 n) h
+  where
+    go : (a b : Bool) → (a ≡ true → 0 < n) → a && b ≡ true → 0 < n
+    go true b k h = k refl
     go false b k h = absurd (true≢false (sym h))
 
 -- a refusal is no design
@@ -80,6 +88,28 @@ module _ (cutoff rate : Float) (w : Window) (n : ℕ) where
     is = ap (λ (z : Float). Ready (record { n = n; fc = cutoff ⊘ rate; window = w; sum = z })) e ∙ sym h;
     kept = λ l k. g ∙ ap normOf (same-window (record { n = n; fc = cutoff ⊘ rate; window = w; sum = s }) l k);
   }
+
+-- ---- what an accepted ticket tells
+pub record Accepted (cutoff rate : Float) (w : Window) (n : ℕ) (l : Lowpass) : Type 0 where
+  pub counted : countTaken n ≡ true
+  pub is : l ≡ record { n = n; fc = cutoff ⊘ rate; window = w; sum = divisorOf (cutoff ⊘ rate) w n }
+
+pub ready-is : (cutoff rate : Float) (w : Window) (n : ℕ) (l : Lowpass) → lowpassOf cutoff rate w n ≡ Ready l → Accepted cutoff rate w n l
+unfolding lowpassOf
+ready-is cutoff rate w n l e = go (positive rate) (inside (cutoff ⊘ rate)) (countTaken n) (betaTaken w) (usable (divisorOf (cutoff ⊘ rate) w n)) (λ h. h) e
+  where
+    r : Lowpass
+    r = record { n = n; fc = cutoff ⊘ rate; window = w; sum = divisorOf (cutoff ⊘ rate) w n }
+
+    go : (a b c d f : Bool) → (c ≡ true → countTaken n ≡ true)
+        → cond a (cond b (cond c (cond d (cond f (Ready r) (Refused (Plain 10))) (Refused (Plain 4))) (Refused (Plain 6))) (Refused (Range 2 (whole 0) (rate ⊘ whole 2) cutoff))) (Refused (Plain 1)) ≡ Ready l
+        → Accepted cutoff rate w n l
+    go true true true true true k e = record { counted = k refl; is = cc }
+    go true true true true false k e = absurd (never (Plain 10) l e)
+    go true true true false f k e = absurd (never (Plain 4) l e)
+    go true true false d f k e = absurd (never (Plain 6) l e)
+    go true false c d f k e = absurd (never (Range 2 (whole 0) (rate ⊘ whole 2) cutoff) l e)
+    go false b c d f k e = absurd (never (Plain 1) l e)
 
 -- ---- a buffer
 module _ (g : Designed) (d : List Float) where

@@ -19,3 +19,4 @@ pub mod WholeSums
 pub mod SumError
 pub mod Sums
 pub mod Quotients
+pub mod Totals

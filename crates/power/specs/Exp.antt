@@ -1,7 +1,7 @@
 -- The exponential of a number from −700 to 0: a power of two, and a nested power series for the rest. Definitions only.
 --   k = floor(x · (1/ln 2) + 0.5)        r = x − k·L1 − k·L2
 --   exp x = (1 + r · (1 + r · (1/2! + r · (1/3! + ..))), to r^13/13!) · 2^k;   0 below −700;   NaN above 0
-use Prim.Native.Nat.{ℕ, _^_}
+use Prim.Native.Nat.{_^_}
 use mathlib.Core.List.{List, [], _∷_}
 use mathlib.Core.Bool.{cond, false}
 use lib.IntN.{ℤ}

@@ -2,27 +2,25 @@
 use mathlib.Core.Path.{_≡_, refl, sym, ap, _∙_, subst}
 use mathlib.Core.Logic.{_⊎_, inl, inr}
 use Prim.Native.Nat.{ℕ, zero, suc, _+_, _-_, _*_, _/_, _%_, _^_, _≤_, _<_}
-use native.Mathlib.Nat.{le-trans, lt-of-le-of-lt, zero-lt-suc, mul-pos, mul-le-mul-right, mul-div-cancel, mul-mod-left, mod-eq-of-lt, div-lt-iff-lt-mul}
+use native.Mathlib.Nat.{le-trans, lt-of-le-of-lt, mul-pos, mul-le-mul-right, div-lt-iff-lt-mul}
 use native.Mathlib.Omega.{arith}
-use mathlib.Core.Bool.{Bool, true, false, not, _&&_, cond, true≢false}
-use lib.Dec.{T, leb, ltb, eqb, lit≤, ltb→lt, nltb→le}
+use mathlib.Core.Bool.{Bool, true, false, not, cond, true≢false}
+use lib.Dec.{T, leb, ltb, lit≤, nltb→le}
 use borrow.Author.Tests.{lt-leb, ne-eqb}
 use lib.IntN.{ℤ, pos, negsuc, negℤ, natAbs}
-use lib.Ieee.{Float, nan, inf, fin, Format, binary64, prec, emax, low, ofBits, ofFields, isNan, nanBits, ofInt, odd, units, minus, up, down, neg, sum, add, mul, div, round, lt, le, unlike, toUnsigned, fits}
+use lib.Ieee.{Float, nan, inf, fin, Format, binary64, prec, emax, low, ofBits, ofFields, isNan, nanBits, ofInt, odd, units, minus, up, down, neg, sum, add, div, round, lt, le, unlike, toUnsigned, fits}
 use lib.Ieee.Back.{round-whole}
 use lib.Ieee.Exact.{HasValue}
 use lib.Ieee.Fits.{div-fits, down-pos, round-is}
 use lib.Ieee.Bits.{nanBits-is}
 use lib.Ieee.Order.{drop, kept}
-use lib.Ieee.Scale.{finite}
 use Rattle.laws.specs.AtMost.{AtMost, at-most-finite, of-le, round-at-most, mul-at-most, add-at-most, floor-at-most}
 use Rattle.laws.specs.Binary64.{_⊕_, _⊗_, _⊘_, whole, fraction, ln2}
-use Rattle.laws.specs.Cases.{either}
 use Rattle.laws.specs.Floor.{floorZ}
 use Rattle.laws.specs.Operations.{mul-error}
 use Rattle.laws.specs.Tests.{holds, fails}
 use Rattle.laws.specs.Units.{isNeg}
-use Rattle.laws.specs.WholeValues.{signed, floor-of-whole, neg-value, Unsigned, unsigned-of, unsigned-zero, unsigned-cut, unsigned-asked, Asked}
+use Rattle.laws.specs.WholeValues.{floor-of-whole, neg-value, Unsigned, unsigned-of, unsigned-zero, unsigned-cut, unsigned-asked, Asked}
 use Rattle.whole.specs.Laws.{floor-value}
 use Rattle.whole.specs.Whole.{floorOf}
 use Rattle.power.specs.Exp.{doublings, rest, expSeries, twoTo, expOf}

@@ -37,7 +37,16 @@ pub struct Report {
 }
 
 // A report with no results.
-fn without_results(number: u32, carries: u32, smallest: f64, largest: f64, offered: f64, expected: u64, given: u64, index: u64) -> Report
+fn without_results(
+    number: u32,
+    carries: u32,
+    smallest: f64,
+    largest: f64,
+    offered: f64,
+    expected: u64,
+    given: u64,
+    index: u64,
+) -> Report
     ensures { λ r. ⌜ r ≡ told number carries smallest largest offered expected given index ⌝ }
 {
     Report {
@@ -61,7 +70,16 @@ pub fn refused(why: Refusal) -> Report
     match why {
         Refusal::Plain(k) => without_results(k, 0, 0.0, 0.0, 0.0, 0, 0, 0),
         Refusal::Range(k, lo, hi, got) => without_results(k, 1, lo, hi, got, 0, 0, 0),
-        Refusal::Length(expected, given) => without_results(8, 2, 0.0, 0.0, 0.0, expected, given, 0),
+        Refusal::Length(expected, given) => without_results(
+            8,
+            2,
+            0.0,
+            0.0,
+            0.0,
+            expected,
+            given,
+            0,
+        ),
         Refusal::Cap(n, cap) => {
             let lo = std::num::nearest_u64_to_f64(n);
             let got = std::num::nearest_u64_to_f64(cap);

@@ -2,7 +2,7 @@
 --   k = floor(x · (2/π) + 0.5)        r = x − k·P1 − k·P2 − k·P3 − k·P4        z = r · r
 --   S = r · (1 + z · (−1/3! + z · (1/5! − ..))), to 1/17!        C = 1 + z · (−1/2! + z · (1/4! − ..)), to 1/16!
 --   by k modulo 4:  sin x is S, C, −S, −C  and  cos x is C, −S, −C, S
-use Prim.Native.Nat.{ℕ, zero, suc, _+_, _-_, _%_, _^_}
+use Prim.Native.Nat.{ℕ, zero, suc, _-_, _%_, _^_}
 use mathlib.Core.List.{List, [], _∷_}
 use mathlib.Core.Bool.{cond}
 use lib.IntN.{ℤ, pos, negsuc}

@@ -54,8 +54,8 @@ fn compare(function: &Function, count: u64, seed: u64, shown: u64) -> Tally {
     tally
 }
 
-/// Puts a wrong function in the port's place, again and again; true if each one was noticed.
-pub fn run_faults(seed: u64) -> bool {
+/// Puts wrong functions in the port's place; how many were noticed, and of how many.
+pub fn run_faults(seed: u64) -> (usize, usize) {
     let mut noticed = 0;
     for fault in &FAULTS {
         for function in FUNCTIONS
@@ -73,8 +73,7 @@ pub fn run_faults(seed: u64) -> bool {
             }
         }
     }
-    println!("planted faults: {noticed} of {} noticed", FAULTS.len());
-    noticed == FAULTS.len()
+    (noticed, FAULTS.len())
 }
 
 /// Compares each function on at least `count` inputs; true if none differs.

@@ -1,21 +1,22 @@
-//! Prints a sample of the Rust side's answers as lines of fixed width; the port has no part in it.
+//! Prints a sample of the Rust side's answers as lines of words; the port has no part in it.
 
 use std::collections::HashSet;
 
+use crate::designers::{self, Answer};
 use crate::functions::FUNCTIONS;
 use crate::inputs;
 use crate::random::Random;
+use crate::report::bits;
+use crate::ticket_inputs;
+use crate::tickets::{KINDS, Kind, Ticket};
 
 const SEED: u64 = 0x0123_4567_89AB_CDEF;
 
-/// The bits of a number, those of a NaN always the same.
-fn bits(x: f64) -> u64 {
-    if x.is_nan() {
-        0x7FF8_0000_0000_0000
-    } else {
-        x.to_bits()
-    }
-}
+/// The most taps that a line can have.
+const LINE_TAPS: usize = 32;
+
+/// The longest buffer in bytes that a line can ask for.
+const LINE_BYTES: u64 = 4096;
 
 /// Prints about `count` lines for each function: the telling inputs, then random ones.
 pub fn run(count: usize) {
@@ -40,6 +41,43 @@ pub fn run(count: usize) {
         }
         while lines < count {
             lines += usize::from(line(inputs::own(function.shape, &mut random)));
+        }
+    }
+}
+
+/// The words of a ticket's line, or nothing if it is too long: the arguments, then the answer.
+fn words(kind: Kind, ticket: &Ticket) -> Option<Vec<u64>> {
+    let Answer { report, taps } = designers::rust(ticket);
+    let mut words = ticket.words();
+    if kind == Kind::KaiserBeta {
+        words.push(bits(report.value));
+    } else {
+        words.extend(report.words());
+    }
+    words.extend(taps.iter().map(|&tap| bits(tap)));
+    (taps.len() <= LINE_TAPS && ticket.bytes() <= LINE_BYTES).then_some(words)
+}
+
+/// Prints about `count` lines for each kind of tickets: telling ones, then random ones.
+pub fn run_tickets(count: usize) {
+    for about in &KINDS {
+        let mut random = Random::new(SEED ^ u64::from(about.number) << 56);
+        let mut seen = HashSet::new();
+        let telling = ticket_inputs::telling(about.kind);
+        // At least a quarter of the lines are random.
+        let mut tickets: Vec<Ticket> = telling.into_iter().take(count * 3 / 4).collect();
+        tickets.reverse();
+        while seen.len() < count {
+            let ticket = tickets
+                .pop()
+                .unwrap_or_else(|| ticket_inputs::draw(about.kind, &mut random));
+            let Some(words) = words(about.kind, &ticket) else {
+                continue;
+            };
+            let line: String = words.iter().map(|word| format!(" {word:016X}")).collect();
+            if seen.insert(line.clone()) {
+                println!("{}{line}", about.number);
+            }
         }
     }
 }

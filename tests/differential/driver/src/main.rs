@@ -2,17 +2,25 @@
 
 mod bench;
 mod compare;
+mod designers;
 mod faults;
 mod functions;
 mod inputs;
 mod list;
 mod port;
 mod random;
+mod report;
 mod smoke;
+mod ticket_compare;
+mod ticket_faults;
+mod ticket_inputs;
+mod tickets;
 
 use std::process::ExitCode;
 
-const USAGE: &str = "usage: driver compare [--count N] [--seed S] | list [--count N] | bench";
+const USAGE: &str = "usage: driver compare [--count N] [--tickets N] [--seed S]
+     | driver list [--count N] [--tickets N]
+     | driver bench";
 
 /// The number after `name` in the words, or the one given.
 fn number(words: &[String], name: &str, otherwise: u64) -> Option<u64> {
@@ -29,22 +37,36 @@ fn known(words: &[String], names: &[&str]) -> bool {
         .all(|pair| pair.len() == 2 && names.contains(&pair[0].as_str()))
 }
 
+/// Puts wrong functions and designers in the port's place; true if each one was noticed.
+fn faults_noticed(seed: u64) -> bool {
+    let (functions, of_functions) = compare::run_faults(seed);
+    let (designers, of_designers) = ticket_compare::run_faults(seed);
+    let (noticed, all) = (functions + designers, of_functions + of_designers);
+    println!("planted faults: {noticed} of {all} noticed");
+    noticed == all
+}
+
 /// Runs what the words ask for; nothing if they can't be understood.
 fn run(words: &[String]) -> Option<bool> {
     let (command, rest) = words.split_first()?;
     match command.as_str() {
-        "compare" if known(rest, &["--count", "--seed"]) => {
+        "compare" if known(rest, &["--count", "--tickets", "--seed"]) => {
             let count = number(rest, "--count", 2_000_000)?;
+            let tickets = number(rest, "--tickets", 1_500_000)?;
             let seed = number(rest, "--seed", 1)?;
-            let ready = smoke::run() & compare::run_faults(seed);
-            Some(compare::run(count, seed) && ready)
+            let ready = smoke::run() & faults_noticed(seed);
+            let functions = compare::run(count, seed);
+            let designers = ticket_compare::run(tickets, seed);
+            Some(ready && functions && designers)
         }
-        "list" if known(rest, &["--count"]) => {
+        "list" if known(rest, &["--count", "--tickets"]) => {
             list::run(number(rest, "--count", 150)? as usize);
+            list::run_tickets(number(rest, "--tickets", 40)? as usize);
             Some(true)
         }
         "bench" if rest.is_empty() => {
             bench::run();
+            bench::run_designs();
             Some(true)
         }
         _ => None,

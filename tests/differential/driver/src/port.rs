@@ -1,6 +1,11 @@
 //! The C functions of the port's static library, each with a safe wrapper.
 
+use crate::report::Report;
+use crate::tickets::{Band, Spec};
+
 mod border {
+    use crate::report::Report;
+
     #[link(name = "border", kind = "static")]
     unsafe extern "C" {
         pub fn pel_floor(x: f64) -> f64;
@@ -11,6 +16,44 @@ mod border {
         pub fn pel_cos(x: f64) -> f64;
         pub fn pel_exp(x: f64) -> f64;
         pub fn pel_pow04(v: f64) -> f64;
+        pub fn pel_bessel_i0(x: f64) -> Report;
+        pub fn pel_kaiser_beta(attenuation: f64) -> f64;
+        pub fn pel_kaiserord(ripple: f64, transition: f64, rate: f64) -> Report;
+        pub fn pel_halfband_len(transition: f64, attenuation: f64, rate: f64) -> Report;
+        pub fn pel_delay(taps: u64) -> Report;
+        pub fn pel_lowpass_new(cutoff: f64, rate: f64, window: u64, beta: f64, taps: u64)
+        -> Report;
+        pub fn pel_lowpass(
+            cutoff: f64,
+            rate: f64,
+            window: u64,
+            beta: f64,
+            out: *mut u8,
+            bytes: usize,
+        ) -> Report;
+        pub fn pel_spec_num_taps(
+            cutoff: f64,
+            transition: f64,
+            attenuation: f64,
+            rate: f64,
+            max_taps: u64,
+        ) -> Report;
+        pub fn pel_spec_lowpass(
+            cutoff: f64,
+            transition: f64,
+            attenuation: f64,
+            rate: f64,
+            max_taps: u64,
+        ) -> Report;
+        pub fn pel_spec_design(
+            cutoff: f64,
+            transition: f64,
+            attenuation: f64,
+            rate: f64,
+            max_taps: u64,
+            out: *mut u8,
+            bytes: usize,
+        ) -> Report;
     }
 }
 
@@ -46,4 +89,81 @@ pub fn exp(x: f64) -> f64 {
 
 pub fn pow04(v: f64) -> f64 {
     unsafe { border::pel_pow04(v) }
+}
+
+// These too are defined for all numbers and touch no memory but a buffer that is lent to them.
+
+pub fn bessel_i0(x: f64) -> Report {
+    unsafe { border::pel_bessel_i0(x) }
+}
+
+pub fn kaiser_beta(attenuation: f64) -> f64 {
+    unsafe { border::pel_kaiser_beta(attenuation) }
+}
+
+pub fn kaiserord(ripple: f64, transition: f64, rate: f64) -> Report {
+    unsafe { border::pel_kaiserord(ripple, transition, rate) }
+}
+
+pub fn halfband_len(transition: f64, attenuation: f64, rate: f64) -> Report {
+    unsafe { border::pel_halfband_len(transition, attenuation, rate) }
+}
+
+pub fn delay(taps: u64) -> Report {
+    unsafe { border::pel_delay(taps) }
+}
+
+pub fn lowpass_new(band: &Band, taps: u64) -> Report {
+    unsafe { border::pel_lowpass_new(band.cutoff, band.rate, band.window, band.beta, taps) }
+}
+
+pub fn lowpass(band: &Band, out: &mut [u8]) -> Report {
+    unsafe {
+        border::pel_lowpass(
+            band.cutoff,
+            band.rate,
+            band.window,
+            band.beta,
+            out.as_mut_ptr(),
+            out.len(),
+        )
+    }
+}
+
+pub fn spec_num_taps(spec: &Spec) -> Report {
+    unsafe {
+        border::pel_spec_num_taps(
+            spec.cutoff,
+            spec.transition,
+            spec.attenuation,
+            spec.rate,
+            spec.max_taps,
+        )
+    }
+}
+
+pub fn spec_lowpass(spec: &Spec) -> Report {
+    unsafe {
+        border::pel_spec_lowpass(
+            spec.cutoff,
+            spec.transition,
+            spec.attenuation,
+            spec.rate,
+            spec.max_taps,
+        )
+    }
+}
+
+pub fn spec_design(spec: &Spec, out: &mut [u8]) -> Report {
+    unsafe {
+        border::pel_spec_design(
+            spec.cutoff,
+            spec.transition,
+            spec.attenuation,
+            spec.rate,
+            spec.max_taps,
+            out.as_mut_ptr(),
+            out.len(),
+        )
+    }
 }

@@ -5,9 +5,29 @@ use sdrk_blocks::design::{DesignWindow, halfband_len, kaiserord, rrc_len};
 use sdrk_core::kernels::channelize::{MAX_CHANNELS, MIN_CHANNELS};
 use sdrk_core::window::bessel_i0;
 
+use crate::designers::rust;
+use crate::tickets::{Band, Spec, Ticket};
+
 /// Prints one line; true if every answer is the one expected.
 pub fn run() -> bool {
     let one_tap = Lowpass::new(0.25, 1.0, DesignWindow::Hann, 1);
+    let spec = |rate| Spec {
+        cutoff: 1000.0,
+        transition: 100.0,
+        attenuation: 60.0,
+        rate,
+        max_taps: 292,
+    };
+    let spec = |rate| rust(&Ticket::SpecNumTaps { spec: spec(rate) }).report;
+    let hann = |cutoff, taps| {
+        let band = Band {
+            cutoff,
+            rate: 1.0,
+            window: 0,
+            beta: 0.0,
+        };
+        rust(&Ticket::LowpassNew { band, taps }).report
+    };
     let answers = [
         bessel_i0(0.0) == 1.0,
         kaiserord(8.0, 1.0, 1.0) == Ok((3, 0.0)),
@@ -18,6 +38,11 @@ pub fn run() -> bool {
         one_tap.is_ok_and(|lowpass| lowpass.tap(0) == 1.0 && lowpass.divisor() == 0.5),
         Lowpass::new(0.25, 1.0, DesignWindow::Hann, 2).is_err(),
         (MIN_CHANNELS, MAX_CHANNELS) == (4, 256),
+        rust(&Ticket::BesselI0 { x: 0.0 }).report.count == 1,
+        (spec(8000.0).number, spec(8000.0).expected) == (9, 293),
+        spec(-8000.0).number == 1,
+        hann(0.25, 2).number == 10,
+        hann(0.5, 2).number == 2,
     ];
     let right = answers.iter().filter(|&&answer| answer).count();
     println!("the Rust files: {right} of {} known answers", answers.len());

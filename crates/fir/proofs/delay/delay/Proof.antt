@@ -1,7 +1,7 @@
 -- `fir::delay::delay` meets its contract. Assumes nothing.
 use borrow.Author.Needs.{needs}
-use mathlib.Core.Path.{_≡_, refl, sym, ap, _∙_}
-use Prim.Native.Nat.{ℕ, zero, suc, _-_, _/_, _<_}
+use mathlib.Core.Path.{_≡_, refl, sym, ap}
+use Prim.Native.Nat.{ℕ, zero, suc, _-_, _/_}
 use native.Mathlib.Omega.{arith}
 use Rattle.fir.specs.Delay.{delayOf}
 use Rattle.fir.specs.declared.delay.Delayed.the-variants.{Samples}

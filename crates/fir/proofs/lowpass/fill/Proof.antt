@@ -1,11 +1,9 @@
 -- `fir::lowpass::fill` meets its contract. The loop's invariant: the taps so far stand at the front. Assumes nothing.
-use mathlib.Core.Path.{_≡_, sym, ap, _∙_}
-use mathlib.Core.List.{List}
-use Prim.Native.Nat.{ℕ, _+_, _≤_, _-_}
+use mathlib.Core.Path.{_≡_, ap, _∙_}
+use Prim.Native.Nat.{_≤_, _-_}
 use native.Mathlib.Omega.{arith}
 use borrow.Author.Needs.{scaled-fits}
-use lib.ListN.{length, set}
-use lib.Ieee.{Float}
+use lib.ListN.{length}
 use Rattle.laws.specs.Filled.{filled, fill-none, fill-more, fill-all, length-filled}
 use Rattle.fir.specs.Lowpass.{tapWith, tapsOf}
 use Rattle.fir.proofs.lowpass.fill.Statement.{statement}

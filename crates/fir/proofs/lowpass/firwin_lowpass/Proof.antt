@@ -1,6 +1,5 @@
 -- `fir::lowpass::firwin_lowpass` meets its contract. Assumes nothing.
 use Rattle.fir.specs.LowpassLaws.{fills-as}
-use native.Mathlib.Omega.{arith}
 use borrow.Author.Needs.{needs}
 use Rattle.fir.proofs.lowpass.firwin_lowpass.Statement.{statement}
 use Rattle.fir.proofs.lowpass.firwin_lowpass.Tie as tie

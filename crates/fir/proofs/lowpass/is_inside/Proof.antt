@@ -1,5 +1,5 @@
 -- `fir::lowpass::is_inside` meets its contract. Assumes nothing.
-use mathlib.Core.Path.{_≡_, sym, _∙_}
+use mathlib.Core.Path.{sym, _∙_}
 use lib.Ieee.{ofBits, ofInt, round}
 use Rattle.fir.specs.Lowpass.{inside}
 use Rattle.fir.proofs.lowpass.is_inside.Statement.{statement}

@@ -1,6 +1,6 @@
 -- `fir::lowpass::is_usable` meets its contract. Assumes nothing.
 use borrow.Author.Needs.{needs}
-use mathlib.Core.Path.{_≡_, refl, sym, ap, _∙_}
+use mathlib.Core.Path.{sym, _∙_}
 use lib.Ieee.{ofBits, ofInt}
 use Rattle.fir.specs.Lowpass.{usable}
 use Rattle.fir.proofs.lowpass.is_usable.Statement.{statement}

@@ -1,16 +1,13 @@
 -- `fir::lowpass::prepare` meets its contract: what each test says, and then an answer at a time. Assumes nothing.
-use mathlib.Core.Path.{_≡_, refl, sym, ap, _∙_}
-use mathlib.Core.Bool.{true, false}
-use Prim.Native.Nat.{ℕ, _≤_}
-use native.Mathlib.Omega.{arith}
+use mathlib.Core.Path.{_≡_, sym, ap, _∙_}
+use mathlib.Core.Bool.{true}
 use borrow.Author.Needs.{needs}
 use borrow.Author.Tests.{not-true, not-false}
 use lib.Ieee.{Float, binary64, ofBits, ofInt}
 use Rattle.laws.specs.Binary64.{_⊘_}
 use Rattle.laws.specs.Sums.{sumTo}
 use Rattle.numbers.specs.Numbers.{positive}
-use Rattle.fir.specs.Windows.{normOf}
-use Rattle.fir.specs.Lowpass.{rawAt, divisorOf, inside, countTaken, betaTaken, usable, lowpassOf, Prepares}
+use Rattle.fir.specs.Lowpass.{rawAt, divisorOf, inside, countTaken, betaTaken, usable}
 use Rattle.fir.specs.LowpassLaws.{count-most, ready, no-divisor, no-beta, no-count, no-cutoff, no-rate, refuses, accepts}
 use Rattle.fir.proofs.lowpass.prepare.Statement.{statement}
 use Rattle.fir.proofs.lowpass.prepare.Tie as tie

@@ -1,6 +1,6 @@
 -- `fir::lowpass::sinc_at` meets its contract. Assumes nothing.
 use borrow.Author.Needs.{needs}
-use mathlib.Core.Path.{_≡_, refl, sym, ap, _∙_}
+use mathlib.Core.Path.{sym}
 use lib.Ieee.{ofBits, ofInt}
 use Rattle.fir.specs.Lowpass.{sinc}
 use Rattle.fir.proofs.lowpass.sinc_at.Statement.{statement}

@@ -1,6 +1,6 @@
 -- `fir::lowpass::takes_beta` meets its contract, a window at a time. Assumes nothing.
 use borrow.Author.Needs.{needs}
-use mathlib.Core.Path.{_≡_, refl, sym, ap, _∙_}
+use mathlib.Core.Path.{sym, _∙_}
 use lib.Ieee.{ofBits, ofInt}
 use Rattle.fir.specs.Lowpass.{betaTaken}
 use Rattle.fir.proofs.lowpass.takes_beta.Statement.{statement}

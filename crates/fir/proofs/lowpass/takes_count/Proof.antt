@@ -1,5 +1,5 @@
 -- `fir::lowpass::takes_count` meets its contract. Assumes nothing.
-use mathlib.Core.Path.{_≡_, sym}
+use mathlib.Core.Path.{sym}
 use borrow.Author.Tests.{lt-ltb, le-ltb}
 use Rattle.fir.specs.Lowpass.{countTaken}
 use Rattle.fir.proofs.lowpass.takes_count.Statement.{statement}

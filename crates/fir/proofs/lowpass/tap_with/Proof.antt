@@ -1,6 +1,6 @@
 -- `fir::lowpass::tap_with` meets its contract. Assumes nothing.
 use borrow.Author.Needs.{needs}
-use mathlib.Core.Path.{_≡_, refl, sym, ap, _∙_}
+use mathlib.Core.Path.{sym}
 use lib.Ieee.{ofBits, ofInt}
 use borrow.Author.Tests.{lt-ltb, le-ltb}
 use Rattle.fir.specs.Lowpass.{tapWith}

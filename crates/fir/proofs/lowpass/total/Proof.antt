@@ -1,5 +1,5 @@
 -- `fir::lowpass::total` meets its contract. The loop's invariant: the sum of the taps so far. Assumes nothing.
-use mathlib.Core.Path.{_≡_, refl, sym, ap, _∙_}
+use mathlib.Core.Path.{_≡_, ap, _∙_}
 use native.Mathlib.Omega.{arith}
 use Prim.Native.Nat.{_≤_, _-_}
 use lib.Ieee.{Float, binary64, add}

@@ -1,9 +1,8 @@
 -- `fir::spec::capped` meets its contract. Assumes nothing.
-use mathlib.Core.Path.{_≡_, refl, sym, ap, _∙_}
+use mathlib.Core.Path.{sym, ap, _∙_}
 use borrow.Author.Tests.{lt-ltb, le-ltb}
 use Rattle.kaiser.specs.declared.order.Order.{Order}
 use Rattle.fir.specs.Spec.{cappedOf}
-use native.Mathlib.Omega.{arith}
 use borrow.Author.Needs.{needs}
 use Rattle.fir.proofs.spec.capped.Statement.{statement}
 use Rattle.fir.proofs.spec.capped.Tie as tie
@@ -15,13 +14,13 @@ enum-known-order-2 : tie.Need-enum-known-order-2
 enum-known-order-2 c = search needs
 
 returns : tie.Need-returns
-returns c = 
+returns c =
     let g = c .before .before .order .given in
     let a = c .before .before .before .before .args in
     sym (ap (λ (o : Order). cappedOf o (a .cap)) (g .1) ∙ rw (lt-ltb (a .cap) (g .0 .0) (c .if1 .taken)))
 
 returns-2 : tie.Need-returns-2
-returns-2 c = 
+returns-2 c =
     let g = c .before .before .order .given in
     let a = c .before .before .before .before .args in
     sym (ap (λ (o : Order). cappedOf o (a .cap)) (g .1) ∙ rw (le-ltb (a .cap) (g .0 .0) (c .if1 .left)))

@@ -1,5 +1,5 @@
 -- `fir::spec::spec_order` meets its contract: what each test says, and then an answer at a time. Assumes nothing.
-use mathlib.Core.Path.{_≡_, refl, sym, ap, _∙_}
+use mathlib.Core.Path.{_≡_, sym, ap, _∙_}
 use mathlib.Core.Bool.{true}
 use borrow.Author.Tests.{not-true, not-false}
 use lib.Ieee.{ofBits, ofInt}
@@ -7,7 +7,6 @@ use Rattle.laws.specs.Binary64.{_⊖_, _⊘_, whole}
 use Rattle.numbers.specs.Numbers.{positive}
 use Rattle.kaiser.specs.declared.order.Order.{Order}
 use Rattle.fir.specs.Spec.{cutoffTaken, cappedOf, specOrderOf}
-use native.Mathlib.Omega.{arith}
 use borrow.Author.Needs.{needs}
 use Rattle.fir.proofs.spec.spec_order.Statement.{statement}
 use Rattle.fir.proofs.spec.spec_order.Tie as tie
@@ -55,7 +54,7 @@ capped-requires c κs = search needs
 
 returns-4 : tie.Need-returns-4
 unfolding specOrderOf
-returns-4 c = 
+returns-4 c =
     let e3 = c .before .before in
     let e2 = e3 .before .before in
     let e1 = e2 .before .before in

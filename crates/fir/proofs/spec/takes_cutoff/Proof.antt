@@ -1,9 +1,7 @@
 -- `fir::spec::takes_cutoff` meets its contract. Assumes nothing.
-use mathlib.Core.Path.{_≡_, refl, sym, ap, _∙_}
+use mathlib.Core.Path.{sym, _∙_}
 use lib.Ieee.{ofBits, ofInt}
 use Rattle.fir.specs.Spec.{cutoffTaken}
-use native.Mathlib.Omega.{arith}
-use borrow.Author.Needs.{needs}
 use Rattle.fir.proofs.spec.takes_cutoff.Statement.{statement}
 use Rattle.fir.proofs.spec.takes_cutoff.Tie as tie
 

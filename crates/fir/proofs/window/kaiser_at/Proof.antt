@@ -1,12 +1,10 @@
 -- `fir::window::kaiser_at` meets its contract. Assumes nothing.
 use borrow.Author.Needs.{needs}
 use mathlib.Core.Path.{_≡_, refl, sym, ap, _∙_}
-use mathlib.Core.Bool.{true, false}
-use lib.Ieee.{Float, binary64, ofBits, ofInt, sub, mul, div, lt}
+use lib.Ieee.{ofBits, ofInt}
 use Rattle.laws.specs.Binary64.{_⊖_, _⊗_, _⊘_, whole}
 use Rattle.laws.specs.Cases.{either}
 use Rattle.root.specs.Sqrt.{sqrtOf}
-use Rattle.series.specs.Series.{seriesOf}
 use Rattle.fir.specs.Windows.{notBelow0, kaiserAt}
 use Rattle.fir.proofs.window.kaiser_at.Statement.{statement}
 use Rattle.fir.proofs.window.kaiser_at.Tie as tie

@@ -1,6 +1,6 @@
 -- `fir::window::norm` meets its contract, a window at a time. Assumes nothing.
 use borrow.Author.Needs.{needs}
-use mathlib.Core.Path.{_≡_, refl, sym, ap, _∙_}
+use mathlib.Core.Path.{sym}
 use lib.Ieee.{ofBits, ofInt}
 use Rattle.fir.specs.Windows.{normOf}
 use Rattle.fir.proofs.window.norm.Statement.{statement}

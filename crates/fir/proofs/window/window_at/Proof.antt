@@ -1,13 +1,13 @@
 -- `fir::window::window_at` meets its contract, a window at a time. Assumes nothing.
 use borrow.Author.Needs.{needs}
-use mathlib.Core.Path.{_≡_, refl, sym, ap, _∙_}
+use mathlib.Core.Path.{_≡_, sym, _∙_}
 use native.Mathlib.Omega.{arith}
-use Prim.Native.Nat.{ℕ, _-_, _^_}
+use Prim.Native.Nat.{_-_, _^_}
 use lib.Dec.{le→leb}
-use lib.Ieee.{Float, ofBits, ofInt, inFloat, round}
+use lib.Ieee.{ofBits, ofInt, inFloat, round}
 use borrow.Author.Tests.{eq-eqb, ne-eqb}
 use Rattle.laws.specs.Binary64.{whole}
-use Rattle.fir.specs.Windows.{angle, kaiserAt, shapeAt, windowAt}
+use Rattle.fir.specs.Windows.{angle, shapeAt, windowAt}
 use Rattle.fir.proofs.window.window_at.Statement.{statement}
 use Rattle.fir.proofs.window.window_at.Tie as tie
 

@@ -1,10 +1,9 @@
 -- `power::exp::exp` meets its contract. Assumes nothing.
-use mathlib.Core.Path.{_≡_, refl, sym, ap, _∙_, subst}
+use mathlib.Core.Path.{_≡_, sym, subst}
 use lib.Dec.{T}
-use lib.Ieee.{Float, binary64, ofBits, ofInt, round, neg, div, fits}
+use lib.Ieee.{binary64, ofBits, ofInt, round, neg, div, fits}
 use borrow.Author.Needs.{needs}
-use Rattle.laws.specs.Floor.{floorZ}
-use Rattle.power.specs.Exp.{L1, L2, doublings, rest, expSeries, twoTo, expOf}
+use Rattle.power.specs.Exp.{L1, L2, doublings, rest}
 use Rattle.power.specs.ExpLaws.{Below, doublings-below, below-700, exp-inside, above-0}
 use Rattle.power.proofs.exp.exp.Statement.{statement}
 use Rattle.power.proofs.exp.exp.Tie as tie

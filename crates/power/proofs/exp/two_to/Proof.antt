@@ -1,13 +1,13 @@
 -- `power::exp::two_to` meets its contract: the pattern's fields are those of a power of two. Assumes nothing.
 use mathlib.Core.Path.{_≡_, sym, ap, _∙_, subst}
-use Prim.Native.Nat.{ℕ, suc, _+_, _-_, _*_, _≤_}
+use Prim.Native.Nat.{ℕ, suc, _+_, _-_, _*_}
 use native.Mathlib.Omega.{arith}
 use mathlib.Core.Bool.{false, not}
 use lib.Dec.{T}
 use lib.IntN.{ℤ}
 use lib.Ieee.{binary64, fin, nanBits, ofBits}
 use borrow.Author.Needs.{needs}
-use Rattle.power.specs.ExpLaws.{Below, below-asked, below-cut, power-bits, power-no-nan}
+use Rattle.power.specs.ExpLaws.{below-asked, below-cut, power-bits, power-no-nan}
 use Rattle.power.proofs.exp.two_to.Statement.{statement}
 use Rattle.power.proofs.exp.two_to.Tie as tie
 

@@ -1,5 +1,5 @@
 -- `power::pow04::pow04` meets its contract: a zero, inside the range, outside it. Assumes nothing.
-use mathlib.Core.Path.{_≡_, _∙_}
+use mathlib.Core.Path.{_∙_}
 use borrow.Author.Needs.{needs}
 use lib.Ieee.{ofInt, ofBits, div}
 use Rattle.laws.specs.Cases.{either}

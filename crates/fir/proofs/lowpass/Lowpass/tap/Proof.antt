@@ -1,6 +1,6 @@
 -- `fir::lowpass::Lowpass::tap` meets its contract. Assumes nothing.
 use borrow.Author.Needs.{needs}
-use mathlib.Core.Path.{_≡_, refl, sym, ap, _∙_}
+use mathlib.Core.Path.{ap, _∙_}
 use lib.Ieee.{Float}
 use Rattle.fir.specs.Lowpass.{tapWith, tapOf}
 use Rattle.fir.proofs.lowpass.Lowpass.tap.Statement.{statement}

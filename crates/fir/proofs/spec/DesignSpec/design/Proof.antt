@@ -1,6 +1,5 @@
 -- `fir::spec::DesignSpec::design` meets its contract. Assumes nothing.
 use Rattle.fir.specs.LowpassLaws.{fills-as}
-use native.Mathlib.Omega.{arith}
 use borrow.Author.Needs.{needs}
 use Rattle.fir.proofs.spec.DesignSpec.design.Statement.{statement}
 use Rattle.fir.proofs.spec.DesignSpec.design.Tie as tie

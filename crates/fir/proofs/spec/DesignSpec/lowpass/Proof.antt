@@ -1,7 +1,6 @@
 -- `fir::spec::DesignSpec::lowpass` meets its contract. Assumes nothing.
-use mathlib.Core.Path.{_≡_, refl, sym, ap, _∙_}
+use mathlib.Core.Path.{sym, ap, _∙_}
 use Rattle.fir.specs.Spec.{lowpassIn, specLowpassOf}
-use native.Mathlib.Omega.{arith}
 use borrow.Author.Needs.{needs}
 use Rattle.fir.proofs.spec.DesignSpec.lowpass.Statement.{statement}
 use Rattle.fir.proofs.spec.DesignSpec.lowpass.Tie as tie
@@ -20,13 +19,13 @@ enum-known-order-2 c = search needs
 
 returns : tie.Need-returns
 unfolding specLowpassOf
-returns c = 
+returns c =
     let a = c .before .before .before .before .before .args in
     c .new .ensures ∙ sym (ap (lowpassIn (a .self) (a .rate)) (sym (c .before .before .before .before .spec-order .ensures) ∙ c .before .before .order .given .1))
 
 returns-2 : tie.Need-returns-2
 unfolding specLowpassOf
-returns-2 c = 
+returns-2 c =
     let a = c .before .before .before .before .args in
     sym (ap (lowpassIn (a .self) (a .rate)) (sym (c .before .before .before .spec-order .ensures) ∙ c .before .order2 .given .1))
 

@@ -1,7 +1,6 @@
 -- `fir::spec::DesignSpec::num_taps` meets its contract. Assumes nothing.
-use mathlib.Core.Path.{_≡_, refl, sym, ap, _∙_}
+use mathlib.Core.Path.{sym, ap, _∙_}
 use Rattle.fir.specs.Spec.{tapsIn, numTapsOf}
-use native.Mathlib.Omega.{arith}
 use borrow.Author.Needs.{needs}
 use Rattle.fir.proofs.spec.DesignSpec.num_taps.Statement.{statement}
 use Rattle.fir.proofs.spec.DesignSpec.num_taps.Tie as tie
