@@ -1,2 +1,9 @@
 // What C and Rust programs call: the exports, all named pel_.
+mod codes;
 pub mod elementary;
+pub mod lengths;
+pub mod lowpass;
+pub mod shape;
+pub mod spec;
+mod taps;
+mod told;

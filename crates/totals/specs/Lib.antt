@@ -1,1 +1,3 @@
 pub mod Lowpass
+pub mod Sound
+pub mod Written

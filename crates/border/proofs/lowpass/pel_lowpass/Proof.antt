@@ -1,0 +1,93 @@
+-- `border::lowpass::pel_lowpass` meets its contract: the code, the length, and then what `prepare` answers. Assumes nothing.
+use mathlib.Core.Path.{sym, ap, _∙_}
+use Prim.Native.Nat.{ℕ, _/_}
+use borrow.Author.Needs.{needs}
+use lib.ListN.{length}
+use Rattle.fir.specs.declared.window.Window.{Window}
+use Rattle.fir.specs.declared.lowpass.Designed.{Designed}
+use Rattle.fir.specs.Lowpass.{lowpassOf}
+use Rattle.border.specs.Lowpass.{lowpassBytes}
+use Rattle.border.specs.Counts.{ready-count}
+use Rattle.border.specs.Laws.{leaves, writes-same, leaves-part, fits, writes-whole}
+use Rattle.border.specs.declared.codes.Coded.{Coded}
+use Rattle.border.proofs.lowpass.pel_lowpass.Statement.{statement}
+use Rattle.border.proofs.lowpass.pel_lowpass.Tie as tie
+
+-- the buffer's length, the design for it by a window, and by what the code stands for
+abbrev len : tie.Start → ℕ
+len c = length (c .args .out .now)
+
+abbrev design : tie.Start → Window → Designed
+design c w = lowpassOf (c .args .cutoff) (c .args .rate) w (len c / 8)
+
+abbrev by-code : tie.Start → Coded → Designed
+by-code c w = lowpassBytes (c .args .cutoff) (c .args .rate) w (len c)
+
+window-of-requires : tie.Need-window-of-requires
+window-of-requires c κs = search needs
+
+enum-known-coded : tie.Need-enum-known-coded
+enum-known-coded c = search needs
+
+sub-t15 : tie.Need-sub-t15
+sub-t15 c = search needs
+
+refused-requires : tie.Need-refused-requires
+refused-requires c κs = search needs
+
+returns : tie.Need-returns
+returns c =
+    let k = c .before .before .before in
+    let start = k .before .before .before .before in
+    let known = ap (by-code start) (sym (k .coded .given .1) ∙ k .before .before .window-of .ensures) in
+    writes-same known (leaves-part (len start) (design start (k .coded .given .0 .0)) (c .before .if1 .taken) (c .refused .ensures))
+
+prepare-requires : tie.Need-prepare-requires
+prepare-requires c κs = search needs
+
+write-design-requires : tie.Need-write-design-requires
+write-design-requires c κs =
+    let p = c .before in
+    let k = p .before .before .before in
+    let start = k .before .before .before .before in
+    let w = k .coded .given .0 .0 in
+    fits (len start) (design start w) (p .before .if1 .left) (p .prepare .ensures) (ready-count (start .args .cutoff) (start .args .rate) w (len start / 8))
+
+enum-told : tie.Need-enum-told
+enum-told c = search needs
+
+refused-requires-2 : tie.Need-refused-requires-2
+refused-requires-2 c κs = search needs
+
+same-length : tie.Need-same-length
+same-length c = search needs
+
+returns-2 : tie.Need-returns-2
+returns-2 c =
+    let p = c .before .before .before .before in
+    let k = p .before .before .before in
+    let start = k .before .before .before .before in
+    let known = ap (by-code start) (sym (k .coded .given .1) ∙ k .before .before .window-of .ensures) in
+    writes-same known (writes-whole (len start) (design start (k .coded .given .0 .0)) (p .before .if1 .left) (p .prepare .ensures) (c .before .before .write-design .ensures))
+
+returns-3 : tie.Need-returns-3
+returns-3 c =
+    let start = c .before .before .before .before .before in
+    leaves (ap (by-code start) (sym (c .before .before .before .window-of .ensures) ∙ c .before .enum-told .given .1)) (c .refused2 .ensures)
+
+pub pel-lowpass-spec : {M : Type 1} → statement M
+pel-lowpass-spec =
+    tie.close
+    (tie.spec
+    window-of-requires
+    enum-known-coded
+    sub-t15
+    refused-requires
+    returns
+    prepare-requires
+    write-design-requires
+    enum-told
+    refused-requires-2
+    same-length
+    returns-2
+    returns-3)

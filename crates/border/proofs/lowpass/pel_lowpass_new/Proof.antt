@@ -1,0 +1,51 @@
+-- `border::lowpass::pel_lowpass_new` meets its contract, a code that is known and one that is not. Assumes nothing.
+use mathlib.Core.Path.{sym, ap, _∙_}
+use borrow.Author.Needs.{needs}
+use Rattle.border.specs.Reports.{designReport}
+use Rattle.border.specs.Lowpass.{lowpassCoded}
+use Rattle.border.specs.declared.codes.Coded.{Coded}
+use Rattle.border.proofs.lowpass.pel_lowpass_new.Statement.{statement}
+use Rattle.border.proofs.lowpass.pel_lowpass_new.Tie as tie
+
+window-of-requires : tie.Need-window-of-requires
+window-of-requires c κs = search needs
+
+enum-known-coded : tie.Need-enum-known-coded
+enum-known-coded c = search needs
+
+new-requires : tie.Need-new-requires
+new-requires c κs = search needs
+
+told-design-requires : tie.Need-told-design-requires
+told-design-requires c κs = search needs
+
+enum-told : tie.Need-enum-told
+enum-told c = search needs
+
+refused-requires : tie.Need-refused-requires
+refused-requires c κs = search needs
+
+returns : tie.Need-returns
+returns c =
+    let a = c .before .before .before .before .before .before .args in
+    let known = sym (c .before .before .before .coded .given .1) ∙ c .before .before .before .before .before .window-of .ensures in
+    c .told-design .ensures ∙ ap designReport (c .before .new .ensures) ∙ ap (λ (w : Coded). designReport (lowpassCoded (a .cutoff) (a .rate) w (a .taps))) known
+
+returns-2 : tie.Need-returns-2
+returns-2 c =
+    let a = c .before .before .before .before .args in
+    let unknown = sym (c .before .enum-told .given .1) ∙ c .before .before .before .window-of .ensures in
+    c .refused .ensures ∙ ap (λ (w : Coded). designReport (lowpassCoded (a .cutoff) (a .rate) w (a .taps))) unknown
+
+pub pel-lowpass-new-spec : {M : Type 1} → statement M
+pel-lowpass-new-spec =
+    tie.close
+    (tie.spec
+    window-of-requires
+    enum-known-coded
+    new-requires
+    told-design-requires
+    enum-told
+    refused-requires
+    returns
+    returns-2)

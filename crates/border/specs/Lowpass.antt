@@ -1,0 +1,19 @@
+-- The low-pass with its window by a code, for a number of taps and for a buffer of bytes. Definitions only.
+use Prim.Native.Nat.{ℕ, _/_}
+use lib.Ieee.{Float}
+use Rattle.refusal.specs.declared.Refusal.the-variants.{Plain}
+use Rattle.fir.specs.declared.lowpass.Designed.{Designed}
+use Rattle.fir.specs.declared.lowpass.Designed.the-variants.{Refused}
+use Rattle.fir.specs.Lowpass.{lowpassOf}
+use Rattle.border.specs.declared.codes.Coded.{Coded}
+use Rattle.border.specs.declared.codes.Coded.the-variants.{Known, Unknown}
+use Rattle.border.specs.Taps.{wholeTaps}
+
+abbrev pub lowpassCoded : Float → Float → Coded → ℕ → Designed
+lowpassCoded cutoff rate (Known w) n = lowpassOf cutoff rate w n
+lowpassCoded cutoff rate Unknown n = Refused (Plain 7)
+
+-- eight bytes a tap
+abbrev pub lowpassBytes : Float → Float → Coded → ℕ → Designed
+lowpassBytes cutoff rate (Known w) len = wholeTaps len (lowpassOf cutoff rate w (len / 8))
+lowpassBytes cutoff rate Unknown len = Refused (Plain 7)
