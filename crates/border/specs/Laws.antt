@@ -9,6 +9,7 @@ use Rattle.refusal.specs.declared.Refusal.{Refusal}
 use Rattle.refusal.specs.declared.Refusal.the-variants.{Length}
 use Rattle.refusal.specs.declared.Report.{Report}
 use Rattle.refusal.specs.Report.{reportOf, acceptedOf}
+use lib.Ieee.{Float}
 use Rattle.fir.specs.declared.lowpass.Lowpass.{Lowpass}
 use Rattle.fir.specs.declared.lowpass.Designed.{Designed}
 use Rattle.fir.specs.declared.lowpass.Designed.the-variants.{Ready, Refused}
@@ -39,10 +40,10 @@ module _ (len : ℕ) (design : Designed) where
   pub leaves-part : {before : List ℕ} {r : Report} → (len % 8 ≡ 0 → ⊥) → r ≡ reportOf (Length (len - len % 8) len) → Writes (wholeTaps len design) before r before
   leaves-part e told = leaves (rw (ne-eqb (len % 8) 0 e)) told
 
-  module _ (whole : len % 8 ≡ 0) {p : Prepared} (prepared : Prepares design p) where
+  module _ (whole : len % 8 ≡ 0) {p : Prepared} {raws : List Float} (prepared : Prepares design p raws) where
     -- as many taps as the buffer has room for
-    pub fits : ((l : Lowpass) → design ≡ Ready l → l .n ≡ len / 8) → Fits p len
-    fits count = record { kept = prepared .kept; room = λ l e. omega (arith, count l (sym (prepared .is) ∙ e)) }
+    pub fits : ((l : Lowpass) → design ≡ Ready l → l .n ≡ len / 8) → Fits p raws len
+    fits count = record { kept = prepared .kept; raws-kept = prepared .raws; room = λ l e. omega (arith, count l (sym (prepared .is) ∙ e)) }
 
     -- what is written by a design that was prepared
     pub writes-whole : {before : List ℕ} {r : Report} {after : List ℕ} → Writes (p .designed) before r after → Writes (wholeTaps len design) before r after

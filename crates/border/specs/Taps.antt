@@ -14,7 +14,7 @@ use Rattle.fir.specs.declared.lowpass.Designed.{Designed}
 use Rattle.fir.specs.declared.lowpass.Designed.the-variants.{Ready, Refused}
 use Rattle.fir.specs.declared.lowpass.Prepared.{Prepared}
 use Rattle.fir.specs.Windows.{normOf}
-use Rattle.fir.specs.Lowpass.{tapWith, tapOf}
+use Rattle.fir.specs.Lowpass.{Keeps, tapWith, tapOf}
 use Rattle.border.specs.Reports.{designReport}
 
 -- the eight bytes of tap i, i0 being the series at the design's beta
@@ -35,7 +35,8 @@ pub record Writes (design : Designed) (before : List ℕ) (r : Report) (after : 
   pub answer : r ≡ designReport design
   pub buffer : after ≡ written design before
 
--- a design, where it is one, that has the series at its beta and is as long as a buffer of len bytes
-pub record Fits (p : Prepared) (len : ℕ) : Type 0 where
+-- a design, where it is one, that has the series at its beta, whose first raw taps a list keeps, and that is as long as a buffer of len bytes
+pub record Fits (p : Prepared) (raws : List Float) (len : ℕ) : Type 0 where
   pub kept : (l : Lowpass) → p .designed ≡ Ready l → p .i0 ≡ normOf (l .window)
+  pub raws-kept : (l : Lowpass) → p .designed ≡ Ready l → Keeps l (p .i0) raws
   pub room : (l : Lowpass) → p .designed ≡ Ready l → len ≡ 8 * l .n

@@ -1,6 +1,7 @@
 // The windowed-sinc low-pass, as exports: the design judged, and its taps in a buffer.
 use super::codes::Coded;
 use super::codes::window_of;
+use super::taps::KEPT;
 use super::taps::write_design;
 use super::told::told_design;
 use fir::lowpass::Lowpass;
@@ -50,8 +51,9 @@ pub extern "C" fn pel_lowpass(
             if len % 8 != 0 {
                 return refusal::refused(Refusal::Length(len - len % 8, len));
             }
-            let p = fir::lowpass::prepare(cutoff, rate, w, len / 8);
-            write_design(p, &mut *out)
+            let mut raws = [0.0f64; KEPT];
+            let p = fir::lowpass::prepare(cutoff, rate, w, len / 8, &mut raws);
+            write_design(p, &raws, &mut *out)
         }
         Coded::Unknown => refusal::refused(Refusal::Plain(7)),
     }

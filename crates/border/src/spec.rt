@@ -1,4 +1,5 @@
 // The low-pass by its specification, as exports: how many taps it needs, the design judged, and its taps in a buffer.
+use super::taps::KEPT;
 use super::taps::write_design;
 use super::told::told_design;
 use super::told::told_length;
@@ -72,6 +73,7 @@ pub extern "C" fn pel_spec_design(
         transition: transition,
         attenuation: attenuation,
     };
-    let p = fir::spec::spec_prepare(spec, rate, cap, len / 8);
-    write_design(p, &mut *out)
+    let mut raws = [0.0f64; KEPT];
+    let p = fir::spec::spec_prepare(spec, rate, cap, len / 8, &mut raws);
+    write_design(p, &raws, &mut *out)
 }

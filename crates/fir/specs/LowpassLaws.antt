@@ -14,7 +14,7 @@ use Rattle.numbers.specs.Numbers.{positive}
 use Rattle.refusal.specs.declared.Refusal.{Refusal}
 use Rattle.refusal.specs.declared.Refusal.the-variants.{Plain, Range}
 use Rattle.fir.specs.Windows.{normOf}
-use Rattle.fir.specs.Lowpass.{divisorOf, inside, countTaken, betaTaken, usable, lowpassOf, Prepares, tapWith, tapOf, tapsOf, answered, stored, Fills}
+use Rattle.fir.specs.Lowpass.{divisorOf, inside, countTaken, betaTaken, usable, lowpassOf, rawAt, KeepsOf, Keeps, Prepares, tapWith, tapOf, tapsOf, answered, stored, Fills}
 use Rattle.fir.specs.declared.window.Window.{Window}
 use Rattle.fir.specs.declared.lowpass.Lowpass.{Lowpass}
 use Rattle.fir.specs.declared.lowpass.Designed.{Designed}
@@ -75,19 +75,22 @@ module _ (cutoff rate : Float) (w : Window) (n : ℕ) where
   no-rate a = rw a
 
   -- a refusal, as an answer
-  pub refuses : (r : Prepared) (why : Refusal) → r .designed ≡ Refused why → lowpassOf cutoff rate w n ≡ Refused why → Prepares (lowpassOf cutoff rate w n) r
-  refuses r why e h = record { is = e ∙ sym h; kept = λ l g. absurd (never why l (sym e ∙ g)) }
+  pub refuses : (r : Prepared) (rs : List Float) (why : Refusal) → r .designed ≡ Refused why → lowpassOf cutoff rate w n ≡ Refused why → Prepares (lowpassOf cutoff rate w n) r rs
+  refuses r rs why e h = record { is = e ∙ sym h; kept = λ l g. absurd (never why l (sym e ∙ g)); raws = λ l g. absurd (never why l (sym e ∙ g)) }
 
   -- a design, as an answer
-  same-window : (l m : Lowpass) → Ready l ≡ Ready m → l .window ≡ m .window
-  same-window l m e = let p : l ≡ m = cc in ap (λ (z : Lowpass). z .window) p
+  same-record : (l m : Lowpass) → Ready l ≡ Ready m → l ≡ m
+  same-record l m e = cc
 
-  pub accepts : (s i0 : Float) → s ≡ divisorOf (cutoff ⊘ rate) w n → i0 ≡ normOf w → lowpassOf cutoff rate w n ≡ Ready (record { n = n; fc = cutoff ⊘ rate; window = w; sum = divisorOf (cutoff ⊘ rate) w n })
-      → Prepares (lowpassOf cutoff rate w n) (record { designed = Ready (record { n = n; fc = cutoff ⊘ rate; window = w; sum = s }); i0 = i0 })
-  accepts s i0 e g h = record {
-    is = ap (λ (z : Float). Ready (record { n = n; fc = cutoff ⊘ rate; window = w; sum = z })) e ∙ sym h;
-    kept = λ l k. g ∙ ap normOf (same-window (record { n = n; fc = cutoff ⊘ rate; window = w; sum = s }) l k);
-  }
+  pub accepts : (s i0 : Float) (rs : List Float) → s ≡ divisorOf (cutoff ⊘ rate) w n → i0 ≡ normOf w → KeepsOf (rawAt (cutoff ⊘ rate) w i0 n) n rs → lowpassOf cutoff rate w n ≡ Ready (record { n = n; fc = cutoff ⊘ rate; window = w; sum = divisorOf (cutoff ⊘ rate) w n })
+      → Prepares (lowpassOf cutoff rate w n) (record { designed = Ready (record { n = n; fc = cutoff ⊘ rate; window = w; sum = s }); i0 = i0 }) rs
+  accepts s i0 rs e g k h =
+      let r : Lowpass = record { n = n; fc = cutoff ⊘ rate; window = w; sum = s } in
+      record {
+        is = ap (λ (z : Float). Ready (record { n = n; fc = cutoff ⊘ rate; window = w; sum = z })) e ∙ sym h;
+        kept = λ l q. g ∙ ap (λ (z : Lowpass). normOf (z .window)) (same-record r l q);
+        raws = λ l q. subst (λ (z : Lowpass). Keeps z i0 rs) (same-record r l q) k;
+      }
 
 -- ---- what an accepted ticket tells
 pub record Accepted (cutoff rate : Float) (w : Window) (n : ℕ) (l : Lowpass) : Type 0 where
@@ -124,8 +127,8 @@ module _ (g : Designed) (d : List Float) where
 pub fills-as : {d e : Designed} {b a : List Float} {r : Filled} → d ≡ e → Fills d b r a → Fills e b r a
 fills-as {d} {e} {b} {a} {r} p f = subst (λ (z : Designed). Fills z b r a) p f
 
-pub prepares-as : {d e : Designed} {r : Prepared} → d ≡ e → Prepares d r → Prepares e r
-prepares-as {d} {e} {r} p f = subst (λ (z : Designed). Prepares z r) p f
+pub prepares-as : {d e : Designed} {r : Prepared} {rs : List Float} → d ≡ e → Prepares d r rs → Prepares e r rs
+prepares-as {d} {e} {r} {rs} p f = subst (λ (z : Designed). Prepares z r rs) p f
 
-pub prepares-refusal : (d : Designed) (why : Refusal) (i0 : Float) → d ≡ Refused why → Prepares d (record { designed = Refused why; i0 = i0 })
-prepares-refusal d why i0 e = record { is = sym e; kept = λ l g. absurd (never why l g) }
+pub prepares-refusal : (d : Designed) (why : Refusal) (i0 : Float) (rs : List Float) → d ≡ Refused why → Prepares d (record { designed = Refused why; i0 = i0 }) rs
+prepares-refusal d why i0 rs e = record { is = sym e; kept = λ l g. absurd (never why l g); raws = λ l g. absurd (never why l g) }

@@ -6,11 +6,11 @@ use refusal::Refusal;
 ghost use mathlib.Core.Path.{_≡_};
 ghost use Prim.Native.Nat.{_^_, _<_, _≤_};
 ghost use lib.Ieee.{binary64};
-ghost use lib.ListN.{length};
+ghost use lib.ListN.{length, set};
 ghost use Rattle.laws.specs.Sums.{sumTo};
 ghost use Rattle.fir.specs.Windows.{normOf};
 ghost use Rattle.fir.specs.declared.lowpass.Lowpass.{Lowpass};
-ghost use Rattle.fir.specs.Lowpass.{sinc, rawAt, inside, countTaken, betaTaken, usable, lowpassOf, Prepares, tapWith, tapOf, Fills, tapsOf};
+ghost use Rattle.fir.specs.Lowpass.{sinc, rawAt, inside, countTaken, betaTaken, usable, lowpassOf, Prepares, Totals, Keeps, tapWith, tapOf, Fills, tapsOf};
 
 const PI: f64 = 3.141592653589793;
 
@@ -64,15 +64,27 @@ fn raw_at(fc: f64, w: Window, i0: f64, n: u64, i: u64) -> f64
     2.0 * fc * sinc_at(x) * window_at(w, i0, n, i)
 }
 
-// The sum of the raw taps, by rising index from +0.
-fn total(fc: f64, w: Window, i0: f64, n: u64) -> f64
+// Stores v at i where the list has that place.
+fn keep(raws: &mut [f64], i: u64, v: f64)
+    ensures { λ _. ⌜ now (raws .exit) ≡ set (now (raws .entry)) i v ⌝ }
+{
+    let k = i as usize;
+    if k < raws.len() {
+        raws[k] = v;
+    }
+}
+
+// The sum of the raw taps, by rising index from +0. As many of them as `raws` has places are kept there, so that they needn't be worked out again.
+fn total(fc: f64, w: Window, i0: f64, n: u64, raws: &mut [f64]) -> f64
     requires { ⌜ n ≤ 2 ^ 24 ⌝ }
-    ensures { λ r. ⌜ r ≡ sumTo binary64 (rawAt fc w i0 n) n ⌝ }
+    ensures { λ r. ⌜ Totals (rawAt fc w i0 n) n r (now (raws .exit)) ⌝ }
 {
     let mut sum = 0.0;
     let mut i = 0u64;
     while i < n {
-        sum = sum + raw_at(fc, w, i0, n, i);
+        let v = raw_at(fc, w, i0, n, i);
+        keep(&mut *raws, i, v);
+        sum = sum + v;
         i += 1;
     }
     sum
@@ -122,8 +134,9 @@ fn refused(why: Refusal) -> Prepared
 }
 
 // The design of a low-pass, with the series at beta. Refused, in this order: 1 a rate that isn't finite and positive; 2 with 0, rate/2, cutoff where cutoff/rate isn't between 0 and 1/2; 6 no taps or more than 2^24; 4 a beta that isn't finite and not negative; 10 a sum of the raw taps that is 0 or not finite.
-pub fn prepare(cutoff: f64, rate: f64, window: Window, n: u64) -> Prepared
-    ensures { λ r. ⌜ Prepares (lowpassOf cutoff rate window n) r ⌝ }
+// The first raw taps are left in `raws`, as many as it has places.
+pub fn prepare(cutoff: f64, rate: f64, window: Window, n: u64, raws: &mut [f64]) -> Prepared
+    ensures { λ r. ⌜ Prepares (lowpassOf cutoff rate window n) r (now (raws .exit)) ⌝ }
 {
     if !numbers::is_positive(rate) {
         return refused(Refusal::Plain(1));
@@ -139,7 +152,7 @@ pub fn prepare(cutoff: f64, rate: f64, window: Window, n: u64) -> Prepared
         return refused(Refusal::Plain(4));
     }
     let i0 = norm(window);
-    let sum = total(fc, window, i0, n);
+    let sum = total(fc, window, i0, n, &mut *raws);
     if !is_usable(sum) {
         return refused(Refusal::Plain(10));
     }
@@ -170,12 +183,29 @@ pub fn tap_with(lp: Lowpass, i0: f64, i: u64) -> f64
     }
 }
 
+// The same where `raws` keeps the design's first raw taps, which are taken from there.
+pub fn kept_tap(lp: Lowpass, i0: f64, raws: &[f64], i: u64) -> f64
+    ensures { λ r. ⌜ (Keeps lp i0 (now (raws .entry)) → r ≡ tapWith lp i0 i) ⌝ }
+{
+    let n = lp.n;
+    let k = i as usize;
+    if k < raws.len() {
+        if i < n {
+            if n <= TAP_LIMIT {
+                return raws[k] / lp.sum;
+            }
+        }
+    }
+    tap_with(lp, i0, i)
+}
+
 impl Lowpass {
     // The design alone; refused as `prepare`.
     pub fn new(cutoff: f64, rate: f64, window: Window, n: u64) -> Designed
         ensures { λ r. ⌜ r ≡ lowpassOf cutoff rate window n ⌝ }
     {
-        let p = prepare(cutoff, rate, window, n);
+        let mut none = [0.0f64; 1];
+        let p = prepare(cutoff, rate, window, n, &mut none);
         p.designed
     }
 
@@ -224,5 +254,7 @@ pub(crate) fn finish(p: Prepared, taps: &mut [f64]) -> Filled
 pub fn firwin_lowpass(cutoff: f64, rate: f64, window: Window, taps: &mut [f64]) -> Filled
     ensures { λ r. ⌜ Fills (lowpassOf cutoff rate window (length (now (taps .entry)))) (now (taps .entry)) r (now (taps .exit)) ⌝ }
 {
-    finish(prepare(cutoff, rate, window, taps.len() as u64), &mut *taps)
+    let mut none = [0.0f64; 1];
+    let p = prepare(cutoff, rate, window, taps.len() as u64, &mut none);
+    finish(p, &mut *taps)
 }

@@ -65,14 +65,15 @@ pub fn spec_order(spec: DesignSpec, rate: f64, cap: u64) -> Order
 }
 
 // The design for a buffer of `len` elements, with the series at beta: refused as `spec_order`, then 8 where the taps are not `len`, then as a low-pass.
-pub fn spec_prepare(spec: DesignSpec, rate: f64, cap: u64, len: u64) -> Prepared
-    ensures { λ r. ⌜ Prepares (specDesignOf spec rate cap len) r ⌝ }
+// The first raw taps are left in `raws`, as many as it has places.
+pub fn spec_prepare(spec: DesignSpec, rate: f64, cap: u64, len: u64, raws: &mut [f64]) -> Prepared
+    ensures { λ r. ⌜ Prepares (specDesignOf spec rate cap len) r (now (raws .exit)) ⌝ }
 {
     let order = spec_order(spec, rate, cap);
     match order {
         Order::Taps(n, beta) => {
             if n == len {
-                prepare(spec.cutoff, rate, Window::Kaiser(beta), n)
+                prepare(spec.cutoff, rate, Window::Kaiser(beta), n, &mut *raws)
             } else {
                 Prepared {
                     designed: Designed::Refused(Refusal::Length(n, len)),
@@ -114,6 +115,8 @@ impl DesignSpec {
     pub fn design(self, rate: f64, cap: u64, taps: &mut [f64]) -> Filled
         ensures { λ r. ⌜ Fills (specDesignOf self rate cap (length (now (taps .entry)))) (now (taps .entry)) r (now (taps .exit)) ⌝ }
     {
-        finish(spec_prepare(self, rate, cap, taps.len() as u64), &mut *taps)
+        let mut none = [0.0f64; 1];
+        let p = spec_prepare(self, rate, cap, taps.len() as u64, &mut none);
+        finish(p, &mut *taps)
     }
 }

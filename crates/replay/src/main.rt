@@ -1,8 +1,13 @@
 // Replays a stored list of the Rust's answers: what the port answers to the same questions is compared with them by bits.
+mod designs;
 mod elementary;
+mod lengths;
+mod lent;
 mod line;
 mod pattern;
 mod tally;
+mod told;
+mod written;
 
 use line::TEXT;
 use tally::COUNTS;
@@ -13,6 +18,8 @@ use tally::Verdict;
 fn judge(kind: usize, words: &[u64; 64], count: usize) -> Verdict {
     match kind {
         1..=8 => elementary::judge(kind, words, count),
+        11..=15 => lengths::judge(kind, words, count),
+        16..=20 => designs::judge(kind, words, count),
         _ => Verdict::Unreadable,
     }
 }
@@ -87,5 +94,7 @@ fn main() {
     let mut counts = [0u64; COUNTS];
     let p = read_all(&mut counts);
     elementary::report(&counts);
+    lengths::report(&counts);
+    designs::report(&counts);
     tally::total(p);
 }

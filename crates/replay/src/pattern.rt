@@ -1,5 +1,6 @@
 // Floats and their bit patterns. from_bits and to_bits are not defined at a NaN, so it is told by a test first.
 ghost use mathlib.Core.Path.{_≡_};
+ghost use Prim.Native.Nat.{_<_};
 ghost use lib.Ieee.{binary64, ofBits};
 ghost use Rattle.replay.specs.Agrees.{agreesOf};
 
@@ -18,6 +19,13 @@ pub fn float_of(b: u64) -> f64
     } else {
         f64::from_bits(b)
     }
+}
+
+// The float of the word at index i.
+pub fn float_at(words: &[u64; 64], i: usize) -> f64
+    requires { ⌜ i < 64 ⌝ }
+{
+    float_of(words[i])
 }
 
 // Is b the pattern of x? Any NaN matches any NaN.

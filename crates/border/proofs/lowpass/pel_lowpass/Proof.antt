@@ -29,8 +29,8 @@ window-of-requires c κs = search needs
 enum-known-coded : tie.Need-enum-known-coded
 enum-known-coded c = search needs
 
-sub-t15 : tie.Need-sub-t15
-sub-t15 c = search needs
+sub-t16 : tie.Need-sub-t16
+sub-t16 c = search needs
 
 refused-requires : tie.Need-refused-requires
 refused-requires c κs = search needs
@@ -42,16 +42,22 @@ returns c =
     let known = ap (by-code start) (sym (k .coded .given .1) ∙ k .before .before .window-of .ensures) in
     writes-same known (leaves-part (len start) (design start (k .coded .given .0 .0)) (c .before .if1 .taken) (c .refused .ensures))
 
+slice-aggregate-prepare : tie.Need-slice-aggregate-prepare
+slice-aggregate-prepare c = search needs
+
 prepare-requires : tie.Need-prepare-requires
 prepare-requires c κs = search needs
 
+slice-aggregate-write-design : tie.Need-slice-aggregate-write-design
+slice-aggregate-write-design c = search needs
+
 write-design-requires : tie.Need-write-design-requires
 write-design-requires c κs =
-    let p = c .before in
-    let k = p .before .before .before in
+    let p = c .before .before .before in
+    let k = p .before .before .before .before in
     let start = k .before .before .before .before in
     let w = k .coded .given .0 .0 in
-    fits (len start) (design start w) (p .before .if1 .left) (p .prepare .ensures) (ready-count (start .args .cutoff) (start .args .rate) w (len start / 8))
+    fits (len start) (design start w) (p .before .before .if1 .left) (p .prepare .ensures) (ready-count (start .args .cutoff) (start .args .rate) w (len start / 8))
 
 enum-told : tie.Need-enum-told
 enum-told c = search needs
@@ -64,11 +70,11 @@ same-length c = search needs
 
 returns-2 : tie.Need-returns-2
 returns-2 c =
-    let p = c .before .before .before .before in
-    let k = p .before .before .before in
+    let p = c .before .before .before .before .before .before in
+    let k = p .before .before .before .before in
     let start = k .before .before .before .before in
     let known = ap (by-code start) (sym (k .coded .given .1) ∙ k .before .before .window-of .ensures) in
-    writes-same known (writes-whole (len start) (design start (k .coded .given .0 .0)) (p .before .if1 .left) (p .prepare .ensures) (c .before .before .write-design .ensures))
+    writes-same known (writes-whole (len start) (design start (k .coded .given .0 .0)) (p .before .before .if1 .left) (p .prepare .ensures) (c .before .before .write-design .ensures))
 
 returns-3 : tie.Need-returns-3
 returns-3 c =
@@ -81,10 +87,12 @@ pel-lowpass-spec =
     (tie.spec
     window-of-requires
     enum-known-coded
-    sub-t15
+    sub-t16
     refused-requires
     returns
+    slice-aggregate-prepare
     prepare-requires
+    slice-aggregate-write-design
     write-design-requires
     enum-told
     refused-requires-2

@@ -17,8 +17,8 @@ len c = length (c .args .out .now)
 abbrev design : tie.Start → Designed
 design c = let a = c .args in specDesignOf (specOf (a .cutoff) (a .transition) (a .attenuation)) (a .rate) (a .cap) (len c / 8)
 
-sub-t14 : tie.Need-sub-t14
-sub-t14 c = search needs
+sub-t15 : tie.Need-sub-t15
+sub-t15 c = search needs
 
 refused-requires : tie.Need-refused-requires
 refused-requires c κs = search needs
@@ -28,33 +28,41 @@ returns c =
     let start = c .before .before .before in
     leaves-part (len start) (design start) (c .before .if1 .taken) (c .refused .ensures)
 
+slice-aggregate-spec-prepare : tie.Need-slice-aggregate-spec-prepare
+slice-aggregate-spec-prepare c = search needs
+
 spec-prepare-requires : tie.Need-spec-prepare-requires
 spec-prepare-requires c κs = search needs
 
+slice-aggregate-write-design : tie.Need-slice-aggregate-write-design
+slice-aggregate-write-design c = search needs
+
 write-design-requires : tie.Need-write-design-requires
 write-design-requires c κs =
-    let p = c .before in
-    let start = p .before .before .before in
+    let p = c .before .before .before in
+    let start = p .before .before .before .before in
     let a = start .args in
-    fits (len start) (design start) (p .before .if1 .left) (p .spec-prepare .ensures) (spec-count (specOf (a .cutoff) (a .transition) (a .attenuation)) (a .rate) (a .cap) (len start / 8))
+    fits (len start) (design start) (p .before .before .if1 .left) (p .spec-prepare .ensures) (spec-count (specOf (a .cutoff) (a .transition) (a .attenuation)) (a .rate) (a .cap) (len start / 8))
 
 same-length : tie.Need-same-length
 same-length c = search needs
 
 returns-2 : tie.Need-returns-2
 returns-2 c =
-    let p = c .before .before .before .before in
-    let start = p .before .before .before in
-    writes-whole (len start) (design start) (p .before .if1 .left) (p .spec-prepare .ensures) (c .before .before .write-design .ensures)
+    let p = c .before .before .before .before .before .before in
+    let start = p .before .before .before .before in
+    writes-whole (len start) (design start) (p .before .before .if1 .left) (p .spec-prepare .ensures) (c .before .before .write-design .ensures)
 
 pub pel-spec-design-spec : {M : Type 1} → statement M
 pel-spec-design-spec =
     tie.close
     (tie.spec
-    sub-t14
+    sub-t15
     refused-requires
     returns
+    slice-aggregate-spec-prepare
     spec-prepare-requires
+    slice-aggregate-write-design
     write-design-requires
     same-length
     returns-2)

@@ -12,16 +12,18 @@ use Rattle.border.proofs.taps.put_taps.Statement.{statement}
 use Rattle.border.proofs.taps.put_taps.Tie as tie
 
 abbrev Inv-loop : tie.InvT-loop
-Inv-loop lp i0 out₀ n i₀ out i = (i ≤ n) × (8 * n ≤ length out₀) × (out ≡ chunked 8 i (tapBytes lp i0) out₀)
+Inv-loop lp i0 raws out₀ n i₀ out i = (i ≤ n) × (8 * n ≤ length out₀) × (out ≡ chunked 8 i (tapBytes lp i0) out₀)
 
 abbrev μ-loop : tie.MeasureT-loop
-μ-loop lp i0 out₀ n i₀ out i = n - i
+μ-loop lp i0 raws out₀ n i₀ out i = n - i
 
 loop-holds : tie.Need-loop-holds Inv-loop μ-loop
-loop-holds c = (omega arith, omega arith, put-none (tapWith (c .before .args .lp) (c .before .args .i0)) (c .before .args .out .now))
+loop-holds c =
+    let a = c .before .before .args in
+    (omega arith, omega arith, put-none (tapWith (a .lp) (a .i0)) (a .out .now))
 
-tap-with-requires : tie.Need-tap-with-requires Inv-loop μ-loop
-tap-with-requires c κs = search needs
+kept-tap-requires : tie.Need-kept-tap-requires Inv-loop μ-loop
+kept-tap-requires c κs = search needs
 
 mul-put-f64 : tie.Need-mul-put-f64 Inv-loop μ-loop
 mul-put-f64 c = omega arith
@@ -38,19 +40,21 @@ loop-less c = omega arith
 loop-again : tie.Need-loop-again Inv-loop μ-loop
 loop-again c =
     let at = c .before .before .before .before .before .before in
-    let a = at .before .before .args in
-    (omega arith, omega arith, cc (put-more (tapWith (a .lp) (a .i0)) (at .loop .i) (a .out .now) (omega arith)))
+    let s = at .before .before .before in
+    let a = s .args in
+    let tap = c .before .before .before .before .kept-tap .ensures (s .pre .1) in
+    (omega arith, omega arith, cc (tap, put-more (tapWith (a .lp) (a .i0)) (at .loop .i) (a .out .now) (omega arith)))
 
 same-length : tie.Need-same-length Inv-loop μ-loop
 same-length c =
     let at = c .before in
-    let a = at .before .before .args in
+    let a = at .before .before .before .args in
     ap length (at .loop .inv .2) ∙ put-length (tapWith (a .lp) (a .i0)) (at .loop .i) (a .out .now) (omega arith)
 
 returns : tie.Need-returns Inv-loop μ-loop
 returns c =
     let at = c .before in
-    let a = at .before .before .args in
+    let a = at .before .before .before .args in
     let all : at .loop .i ≡ length (a .out .now) / 8 = omega arith in
     cc (put-all (tapWith (a .lp) (a .i0)) (at .loop .i) (a .out .now) (omega arith))
 
@@ -61,7 +65,7 @@ put-taps-spec =
     Inv-loop
     μ-loop
     loop-holds
-    tap-with-requires
+    kept-tap-requires
     mul-put-f64
     put-f64-requires
     add-i

@@ -14,8 +14,8 @@ enum-known-designed c = search needs
 put-taps-requires : tie.Need-put-taps-requires
 put-taps-requires c κs =
     let g = c .before .before .designed .given in
-    let a = c .before .before .before .before .before in
-    omega (arith, a .pre .room (g .0 .0) (g .1))
+    let a = c .before .before .before .before .before .before in
+    (omega (arith, a .pre .room (g .0 .0) (g .1)), a .pre .raws-kept (g .0 .0) (g .1))
 
 accepted-requires : tie.Need-accepted-requires
 accepted-requires c κs = search needs
@@ -33,7 +33,7 @@ returns : tie.Need-returns
 returns c =
     let d = c .before .before .before .before .before .before in
     let g = d .designed .given in
-    let a = d .before .before .before in
+    let a = d .before .before .before .before in
     let l = g .0 .0 in
     let n : length (a .args .out .now) / 8 ≡ l .n = omega (arith, a .pre .room l (g .1)) in
     fills (g .1) (c .accepted .ensures) (c .before .before .before .put-taps .ensures ∙ rw (n, a .pre .kept l (g .1)))

@@ -46,76 +46,85 @@ refused-requires-5 : tie.Need-refused-requires-5
 refused-requires-5 c κs = search needs
 
 -- ---- what each test that was passed says
-past1 : (c : tie.Else1) → positive (c .before .before .args .rate) ≡ true
+past1 : (c : tie.Else1) → positive (c .before .before .before .args .rate) ≡ true
 past1 c = sym (c .before .is-positive .ensures) ∙ not-false _ (c .if1 .left)
 
-past2 : (c : tie.Else2) → inside (c .before .before .before .before .args .cutoff ⊘ c .before .before .before .before .args .rate) ≡ true
+past2 : (c : tie.Else2) → inside (c .before .before .before .before .before .args .cutoff ⊘ c .before .before .before .before .before .args .rate) ≡ true
 past2 c = sym (c .before .is-inside .ensures) ∙ not-false _ (c .if2 .left)
 
-past3 : (c : tie.Else3) → countTaken (c .before .before .before .before .before .before .args .n) ≡ true
+past3 : (c : tie.Else3) → countTaken (c .before .before .before .before .before .before .before .args .n) ≡ true
 past3 c = sym (c .before .takes-count .ensures) ∙ not-false _ (c .if3 .left)
 
-past4 : (c : tie.Else4) → betaTaken (c .before .before .before .before .before .before .before .before .args .window) ≡ true
+past4 : (c : tie.Else4) → betaTaken (c .before .before .before .before .before .before .before .before .before .args .window) ≡ true
 past4 c = sym (c .before .takes-beta .ensures) ∙ not-false _ (c .if4 .left)
 
 total-requires : tie.Need-total-requires
-total-requires c κs = count-most (c .before .before .before .before .before .before .before .before .before .args .n) (past3 (c .before .before .before))
+total-requires c κs = count-most (c .before .before .before .before .before .before .before .before .before .before .before .args .n) (past3 (c .before .before .before .before))
 
 -- the sum is the definition's divisor
-divided : (c : tie.After-total) → c .total .result ≡ divisorOf (c .before .before .before .before .before .before .before .before .before .before .args .cutoff ⊘ c .before .before .before .before .before .before .before .before .before .before .args .rate) (c .before .before .before .before .before .before .before .before .before .before .args .window) (c .before .before .before .before .before .before .before .before .before .before .args .n)
+abbrev start : tie.After-total → tie.Start
+start c = c .before .before .before .before .before .before .before .before .before .before .before .before
+
+divided : (c : tie.After-total) → c .total .result ≡ divisorOf (start c .args .cutoff ⊘ start c .args .rate) (start c .args .window) (start c .args .n)
 unfolding divisorOf
 divided c =
-    let a = c .before .before .before .before .before .before .before .before .before .before .args in
-    c .total .ensures ∙ ap (λ (z : Float). sumTo binary64 (rawAt (a .cutoff ⊘ a .rate) (a .window) z (a .n)) (a .n)) (c .before .norm .ensures)
+    let a = start c .args in
+    c .total .ensures .is ∙ ap (λ (z : Float). sumTo binary64 (rawAt (a .cutoff ⊘ a .rate) (a .window) z (a .n)) (a .n)) (c .before .before .norm .ensures)
 
 returns : tie.Need-returns
 returns c =
-    let a = c .before .before .before .args in
-    refuses (a .cutoff) (a .rate) (a .window) (a .n) (c .refused .result) _ (c .refused .ensures) (no-rate (a .cutoff) (a .rate) (a .window) (a .n) (sym (c .before .before .is-positive .ensures) ∙ not-true _ (c .before .if1 .taken)))
+    let a = c .before .before .before .before .args in
+    refuses (a .cutoff) (a .rate) (a .window) (a .n) (c .refused .result) _ _ (c .refused .ensures) (no-rate (a .cutoff) (a .rate) (a .window) (a .n) (sym (c .before .before .is-positive .ensures) ∙ not-true _ (c .before .if1 .taken)))
 
 returns-2 : tie.Need-returns-2
 unfolding ofInt ofBits
 returns-2 c =
     let e1 = c .before .before .before in
-    let a = e1 .before .before .args in
-    refuses (a .cutoff) (a .rate) (a .window) (a .n) (c .refused2 .result) _ (c .refused2 .ensures) (no-cutoff (a .cutoff) (a .rate) (a .window) (a .n) (past1 e1) (sym (c .before .before .is-inside .ensures) ∙ not-true _ (c .before .if2 .taken)))
+    let a = e1 .before .before .before .args in
+    refuses (a .cutoff) (a .rate) (a .window) (a .n) (c .refused2 .result) _ _ (c .refused2 .ensures) (no-cutoff (a .cutoff) (a .rate) (a .window) (a .n) (past1 e1) (sym (c .before .before .is-inside .ensures) ∙ not-true _ (c .before .if2 .taken)))
 
 returns-3 : tie.Need-returns-3
 returns-3 c =
     let e2 = c .before .before .before in
     let e1 = e2 .before .before in
-    let a = e1 .before .before .args in
-    refuses (a .cutoff) (a .rate) (a .window) (a .n) (c .refused3 .result) _ (c .refused3 .ensures) (no-count (a .cutoff) (a .rate) (a .window) (a .n) (past1 e1) (past2 e2) (sym (c .before .before .takes-count .ensures) ∙ not-true _ (c .before .if3 .taken)))
+    let a = e1 .before .before .before .args in
+    refuses (a .cutoff) (a .rate) (a .window) (a .n) (c .refused3 .result) _ _ (c .refused3 .ensures) (no-count (a .cutoff) (a .rate) (a .window) (a .n) (past1 e1) (past2 e2) (sym (c .before .before .takes-count .ensures) ∙ not-true _ (c .before .if3 .taken)))
 
 returns-4 : tie.Need-returns-4
 returns-4 c =
     let e3 = c .before .before .before in
     let e2 = e3 .before .before in
     let e1 = e2 .before .before in
-    let a = e1 .before .before .args in
-    refuses (a .cutoff) (a .rate) (a .window) (a .n) (c .refused4 .result) _ (c .refused4 .ensures) (no-beta (a .cutoff) (a .rate) (a .window) (a .n) (past1 e1) (past2 e2) (past3 e3) (sym (c .before .before .takes-beta .ensures) ∙ not-true _ (c .before .if4 .taken)))
+    let a = e1 .before .before .before .args in
+    refuses (a .cutoff) (a .rate) (a .window) (a .n) (c .refused4 .result) _ _ (c .refused4 .ensures) (no-beta (a .cutoff) (a .rate) (a .window) (a .n) (past1 e1) (past2 e2) (past3 e3) (sym (c .before .before .takes-beta .ensures) ∙ not-true _ (c .before .if4 .taken)))
 
 returns-5 : tie.Need-returns-5
 returns-5 c =
-    let t = c .before .before .before in
-    let e4 = t .before .before in
+    let t = c .before .before .before .before .before in
+    let e4 = t .before .before .before in
     let e3 = e4 .before .before in
     let e2 = e3 .before .before in
     let e1 = e2 .before .before in
-    let a = e1 .before .before .args in
-    refuses (a .cutoff) (a .rate) (a .window) (a .n) (c .refused5 .result) _ (c .refused5 .ensures)
+    let a = e1 .before .before .before .args in
+    refuses (a .cutoff) (a .rate) (a .window) (a .n) (c .refused5 .result) _ _ (c .refused5 .ensures)
     (no-divisor (a .cutoff) (a .rate) (a .window) (a .n) (past1 e1) (past2 e2) (past3 e3) (past4 e4) (ap usable (sym (divided t)) ∙ sym (c .before .before .is-usable .ensures) ∙ not-true _ (c .before .if5 .taken)))
 
 returns-6 : tie.Need-returns-6
 returns-6 c =
-    let t = c .before .before in
-    let e4 = t .before .before in
+    let t = c .before .before .before .before in
+    let e4 = t .before .before .before in
     let e3 = e4 .before .before in
     let e2 = e3 .before .before in
     let e1 = e2 .before .before in
-    let a = e1 .before .before .args in
-    accepts (a .cutoff) (a .rate) (a .window) (a .n) (t .total .result) (t .before .norm .result) (divided t) (t .before .norm .ensures)
+    let a = e1 .before .before .before .args in
+    accepts (a .cutoff) (a .rate) (a .window) (a .n) (t .total .result) (t .before .before .norm .result) _ (divided t) (t .before .before .norm .ensures) (t .total .ensures .keeps)
     (ready (a .cutoff) (a .rate) (a .window) (a .n) (past1 e1) (past2 e2) (past3 e3) (past4 e4) (ap usable (sym (divided t)) ∙ sym (c .before .is-usable .ensures) ∙ not-false _ (c .if5 .left)))
+
+same-length : tie.Need-same-length
+same-length c = search needs
+
+same-length-2 : tie.Need-same-length-2
+same-length-2 c = search needs
 
 pub prepare-spec : {M : Type 1} → statement M
 prepare-spec =
@@ -137,5 +146,7 @@ prepare-spec =
     total-requires
     is-usable-requires
     refused-requires-5
+    same-length
     returns-5
+    same-length-2
     returns-6)

@@ -1,24 +1,32 @@
--- `fir::lowpass::total` meets its contract. The loop's invariant: the sum of the taps so far. Assumes nothing.
-use mathlib.Core.Path.{_≡_, ap, _∙_}
+-- `fir::lowpass::total` meets its contract. The loop's invariant: the sum of the taps so far, and the first of them kept. Assumes nothing.
+use mathlib.Core.Path.{_≡_, refl, sym, ap, _∙_, subst}
+use mathlib.Core.List.{List}
+use Prim.Native.Nat.{ℕ, _+_, _≤_, _-_}
 use native.Mathlib.Omega.{arith}
-use Prim.Native.Nat.{_≤_, _-_}
+use lib.ListN.{length, length-set}
 use lib.Ieee.{Float, binary64, add}
-use Rattle.laws.specs.Sums.{sumTo, sum-none, sum-more}
-use Rattle.fir.specs.Lowpass.{rawAt}
+use Rattle.laws.specs.Sums.{sum-none, sum-more}
+use Rattle.fir.specs.Lowpass.{rawAt, KeepsOf, Totals}
+use Rattle.fir.specs.KeptLaws.{keeps-none, keeps-more}
 use Rattle.fir.proofs.lowpass.total.Statement.{statement}
 use Rattle.fir.proofs.lowpass.total.Tie as tie
 
 abbrev Inv-loop : tie.InvT-loop
-Inv-loop fc w i0 n sum₀ i₀ sum i = (i ≤ n) × (sum ≡ sumTo binary64 (rawAt fc w i0 n) i)
+Inv-loop fc w i0 n raws₀ sum₀ i₀ raws sum i = (i ≤ n) × (length raws ≡ length raws₀) × Totals (rawAt fc w i0 n) i sum raws
 
 abbrev μ-loop : tie.MeasureT-loop
-μ-loop fc w i0 n sum₀ i₀ sum i = n - i
+μ-loop fc w i0 n raws₀ sum₀ i₀ raws sum i = n - i
 
 loop-holds : tie.Need-loop-holds Inv-loop μ-loop
-loop-holds c = (omega arith, sum-none binary64 _)
+loop-holds c =
+    let a = c .before .args in
+    (omega arith, refl, record { is = sum-none binary64 _; keeps = keeps-none (rawAt (a .fc) (a .w) (a .i0) (a .n)) (a .raws .now) })
 
 raw-at-requires : tie.Need-raw-at-requires Inv-loop μ-loop
 raw-at-requires c κs = (omega arith, omega arith)
+
+keep-requires : tie.Need-keep-requires Inv-loop μ-loop
+keep-requires c κs = tt
 
 add-i : tie.Need-add-i Inv-loop μ-loop
 add-i c = omega arith
@@ -28,18 +36,41 @@ loop-less c = omega arith
 
 loop-again : tie.Need-loop-again Inv-loop μ-loop
 loop-again c =
-    let at = c .before .before in
-    let a = at .before .args in
+    let at = c .before .before .before .before .before .before in
+    let a = at .before .before .args in
     let g = rawAt (a .fc) (a .w) (a .i0) (a .n) in
-    (omega arith, ap (λ (z : Float). add binary64 (at .loop .sum) z) (c .raw-at .ensures) ∙ ap (λ (z : Float). add binary64 z (g (at .loop .i))) (at .loop .inv .1) ∙ sum-more binary64 g (at .loop .i))
+    let v = c .before .before .before .before .raw-at in
+    let t = at .loop .inv .2 in
+    let k = c .before .before .keep .ensures in (
+      omega arith,
+      ap length k ∙ length-set (at .loop .raws) (at .loop .i) (v .result) ∙ at .loop .inv .1,
+      record {
+        is = ap (λ (z : Float). add binary64 (at .loop .sum) z) (v .ensures) ∙ ap (λ (z : Float). add binary64 z (g (at .loop .i))) (t .is) ∙ sum-more binary64 g (at .loop .i);
+        keeps = subst (λ (rs : List Float). KeepsOf g (at .loop .i + 1) rs) (sym k) (keeps-more g (at .loop .i) (at .loop .raws) (v .result) (v .ensures) (t .keeps));
+      },
+    )
+
+same-length : tie.Need-same-length Inv-loop μ-loop
+same-length c = c .before .loop .inv .1
 
 returns : tie.Need-returns Inv-loop μ-loop
 returns c =
     let at = c .before in
-    let a = at .before .args in
-    at .loop .inv .1 ∙ ap (λ i. sumTo binary64 (rawAt (a .fc) (a .w) (a .i0) (a .n)) i) (omega arith)
+    let a = at .before .before .args in
+    let e : at .loop .i ≡ a .n = omega arith in
+    subst (λ (k : ℕ). Totals (rawAt (a .fc) (a .w) (a .i0) (a .n)) k (at .loop .sum) (at .loop .raws)) e (at .loop .inv .2)
 
 pub total-spec : {M : Type 1} → statement M
 total-spec =
     tie.close
-    (tie.spec Inv-loop μ-loop loop-holds raw-at-requires add-i loop-less loop-again returns)
+    (tie.spec
+    Inv-loop
+    μ-loop
+    loop-holds
+    raw-at-requires
+    keep-requires
+    add-i
+    loop-less
+    loop-again
+    same-length
+    returns)

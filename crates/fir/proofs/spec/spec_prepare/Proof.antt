@@ -1,8 +1,9 @@
 -- `fir::spec::spec_prepare` meets its contract. Assumes nothing.
-use mathlib.Core.Path.{sym, ap, _∙_}
+use mathlib.Core.Path.{_≡_, refl, sym, ap, _∙_}
 use borrow.Author.Tests.{eq-eqb, ne-eqb}
 use Rattle.fir.specs.LowpassLaws.{prepares-as, prepares-refusal}
 use Rattle.fir.specs.Spec.{designIn, specDesignOf}
+use native.Mathlib.Omega.{arith}
 use borrow.Author.Needs.{needs}
 use Rattle.fir.proofs.spec.spec_prepare.Statement.{statement}
 use Rattle.fir.proofs.spec.spec_prepare.Tie as tie
@@ -19,25 +20,30 @@ prepare-requires c κs = search needs
 enum-known-order-2 : tie.Need-enum-known-order-2
 enum-known-order-2 c = search needs
 
+same-length : tie.Need-same-length
+same-length c = search needs
+
 returns : tie.Need-returns
 unfolding specDesignOf
 returns c =
-    let a = c .before .before .before .before .before .before .args in
-    let g = c .before .before .before .order .given in
-    prepares-as (sym (ap (designIn (a .spec) (a .rate) (a .len)) (sym (c .before .before .before .before .before .spec-order .ensures) ∙ g .1) ∙ rw (eq-eqb (g .0 .0) (a .len) (c .before .if1 .taken)))) (c .prepare .ensures)
+    let o = c .before .before .before .before .before .before in
+    let a = o .before .before .before .before .args in
+    let g = o .order .given in
+    prepares-as (sym (ap (designIn (a .spec) (a .rate) (a .len)) (sym (o .before .before .spec-order .ensures) ∙ g .1) ∙ rw (eq-eqb (g .0 .0) (a .len) (c .before .before .before .before .if1 .taken)))) (c .before .before .prepare .ensures)
 
 returns-2 : tie.Need-returns-2
 unfolding specDesignOf
 returns-2 c =
-    let a = c .before .before .before .before .before .args in
-    let g = c .before .before .order .given in
-    prepares-refusal _ _ _ (ap (designIn (a .spec) (a .rate) (a .len)) (sym (c .before .before .before .before .spec-order .ensures) ∙ g .1) ∙ rw (ne-eqb (g .0 .0) (a .len) (c .if1 .left)))
+    let o = c .before .before in
+    let a = o .before .before .before .before .args in
+    let g = o .order .given in
+    prepares-refusal _ _ _ _ (ap (designIn (a .spec) (a .rate) (a .len)) (sym (o .before .before .spec-order .ensures) ∙ g .1) ∙ rw (ne-eqb (g .0 .0) (a .len) (c .if1 .left)))
 
 returns-3 : tie.Need-returns-3
 unfolding specDesignOf
 returns-3 c =
-    let a = c .before .before .before .before .args in
-    prepares-refusal _ _ _ (ap (designIn (a .spec) (a .rate) (a .len)) (sym (c .before .before .before .spec-order .ensures) ∙ c .before .order2 .given .1))
+    let a = c .before .before .before .before .before .args in
+    prepares-refusal _ _ _ _ (ap (designIn (a .spec) (a .rate) (a .len)) (sym (c .before .before .before .spec-order .ensures) ∙ c .before .order2 .given .1))
 
 pub spec-prepare-spec : {M : Type 1} → statement M
 spec-prepare-spec =
@@ -47,6 +53,7 @@ spec-prepare-spec =
     enum-known-order
     prepare-requires
     enum-known-order-2
+    same-length
     returns
     returns-2
     returns-3)

@@ -1,0 +1,50 @@
+// Kinds 16 to 20: the low-pass designs. A line has the arguments of an export and its report; those that write to a buffer are judged apart.
+use crate::pattern::float_at;
+use crate::tally;
+use crate::tally::COUNTS;
+use crate::tally::Verdict;
+use crate::told;
+use crate::written;
+use border::lowpass::pel_lowpass_new;
+use border::spec::pel_spec_lowpass;
+use border::spec::pel_spec_num_taps;
+use refusal::Report;
+
+// The words before the report, where nothing is written.
+const ARGUMENTS: usize = 5;
+
+fn lowpass_new(words: &[u64; 64]) -> Report {
+    let cutoff = float_at(words, 0);
+    let rate = float_at(words, 1);
+    let beta = float_at(words, 3);
+    pel_lowpass_new(cutoff, rate, words[2], beta, words[4])
+}
+
+fn spec(kind: usize, words: &[u64; 64]) -> Report {
+    let cutoff = float_at(words, 0);
+    let transition = float_at(words, 1);
+    let attenuation = float_at(words, 2);
+    let rate = float_at(words, 3);
+    let cap = words[4];
+    match kind {
+        18 => pel_spec_num_taps(cutoff, transition, attenuation, rate, cap),
+        _ => pel_spec_lowpass(cutoff, transition, attenuation, rate, cap),
+    }
+}
+
+pub fn judge(kind: usize, words: &[u64; 64], count: usize) -> Verdict {
+    match kind {
+        16 => told::judge(lowpass_new(words), words, ARGUMENTS, count),
+        18 | 19 => told::judge(spec(kind, words), words, ARGUMENTS, count),
+        _ => written::judge(kind, words, count),
+    }
+}
+
+// Prints a line for each kind.
+pub fn report(counts: &[u64; COUNTS]) {
+    tally::named(b"lowpass_new", 16, counts);
+    tally::named(b"lowpass", 17, counts);
+    tally::named(b"spec_num_taps", 18, counts);
+    tally::named(b"spec_lowpass", 19, counts);
+    tally::named(b"spec_design", 20, counts);
+}

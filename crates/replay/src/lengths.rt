@@ -1,0 +1,57 @@
+// Kinds 11 to 15: Kaiser's shape, lengths and delays. A line has the arguments of an export and what it answers: a report, and of beta its bits alone.
+ghost use Prim.Native.Nat.{_≤_};
+use crate::pattern;
+use crate::pattern::float_at;
+use crate::tally;
+use crate::tally::COUNTS;
+use crate::tally::Verdict;
+use crate::told;
+use border::lengths;
+use border::shape;
+use refusal::Report;
+
+// How many words a kind has before its report.
+fn arguments(kind: usize) -> usize
+    ensures { λ r. ⌜ r ≤ 3 ⌝ }
+{
+    match kind {
+        13 | 14 => 3,
+        _ => 1,
+    }
+}
+
+fn answer(kind: usize, words: &[u64; 64]) -> Report {
+    let x = float_at(words, 0);
+    let y = float_at(words, 1);
+    let z = float_at(words, 2);
+    match kind {
+        11 => shape::pel_bessel_i0(x),
+        13 => lengths::pel_kaiserord(x, y, z),
+        14 => lengths::pel_halfband_len(x, y, z),
+        _ => lengths::pel_delay(words[0]),
+    }
+}
+
+fn judge_beta(words: &[u64; 64], count: usize) -> Verdict {
+    if count != 2 {
+        return Verdict::Unreadable;
+    }
+    let beta = shape::pel_kaiser_beta(float_at(words, 0));
+    tally::judged(pattern::agrees(beta, words[1]))
+}
+
+pub fn judge(kind: usize, words: &[u64; 64], count: usize) -> Verdict {
+    if kind == 12 {
+        return judge_beta(words, count);
+    }
+    told::judge(answer(kind, words), words, arguments(kind), count)
+}
+
+// Prints a line for each kind.
+pub fn report(counts: &[u64; COUNTS]) {
+    tally::named(b"bessel_i0", 11, counts);
+    tally::named(b"kaiser_beta", 12, counts);
+    tally::named(b"kaiserord", 13, counts);
+    tally::named(b"halfband_len", 14, counts);
+    tally::named(b"delay", 15, counts);
+}
