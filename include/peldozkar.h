@@ -3,6 +3,7 @@
  * Link with libborder.a, which `rt staticlib border` writes. Each function is proved to give the value
  * that is said here for every argument, NaN, infinities, zeros of both signs, subnormal numbers and
  * impossible counts included; it allocates nothing, keeps nothing, calls nothing and always returns.
+ * On the stack pel_lowpass and pel_spec_design take under 9 KB, the others under 1 KB (x86-64).
  *
  * The bits are the same on every reader: each operation is rounded once to a double, to the nearest,
  * ties to even. A NaN's sign and payload are free.

@@ -15,7 +15,8 @@ use Rattle.fir.specs.declared.lowpass.Designed.{Designed}
 use Rattle.fir.specs.declared.lowpass.Designed.the-variants.{Ready, Refused}
 use Rattle.fir.specs.declared.lowpass.Prepared.{Prepared}
 use Rattle.fir.specs.Windows.{normOf}
-use Rattle.fir.specs.Lowpass.{tapOf, Prepares}
+use Rattle.fir.specs.Lowpass.{tapOf}
+use Rattle.fir.specs.Kept.{Prepares}
 use Rattle.border.specs.Reports.{designReport}
 use Rattle.border.specs.Taps.{tapBytes, wholeTaps, written, Writes, Fits}
 

@@ -14,7 +14,8 @@ use Rattle.fir.specs.declared.lowpass.Designed.{Designed}
 use Rattle.fir.specs.declared.lowpass.Designed.the-variants.{Ready, Refused}
 use Rattle.fir.specs.declared.lowpass.Prepared.{Prepared}
 use Rattle.fir.specs.Windows.{normOf}
-use Rattle.fir.specs.Lowpass.{Keeps, tapWith, tapOf}
+use Rattle.fir.specs.Lowpass.{tapWith, tapOf}
+use Rattle.fir.specs.Kept.{Keeps}
 use Rattle.border.specs.Reports.{designReport}
 
 -- the eight bytes of tap i, i0 being the series at the design's beta

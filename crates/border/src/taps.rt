@@ -7,7 +7,7 @@ ghost use mathlib.Core.Path.{_≡_};
 ghost use Prim.Native.Nat.{_/_, _%_};
 ghost use lib.ListN.{length};
 ghost use Rattle.laws.specs.Chunks.{chunks};
-ghost use Rattle.fir.specs.Lowpass.{Keeps};
+ghost use Rattle.fir.specs.Kept.{Keeps};
 ghost use Rattle.border.specs.Taps.{tapBytes, Fits, Writes};
 
 // How many raw taps an export keeps while it designs, so that each is worked out once: 8 kilobytes.

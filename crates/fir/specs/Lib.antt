@@ -1,6 +1,7 @@
 pub mod Delay
 pub mod Windows
 pub mod Lowpass
-pub mod LowpassLaws
+pub mod Kept
 pub mod KeptLaws
+pub mod LowpassLaws
 pub mod Spec

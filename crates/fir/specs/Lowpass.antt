@@ -1,12 +1,12 @@
 -- The windowed-sinc low-pass of n taps with the cutoff fc, a fraction of the rate. Definitions only.
 --   h[i] = 2 fc sinc(2 fc (i − m)) w[i],  m = (n − 1)/2,  sinc x = sin(π x)/(π x),  sinc 0 = 1;  tap i is h[i] / Σ h
-use Prim.Native.Nat.{ℕ, _-_, _<_}
+use Prim.Native.Nat.{ℕ, _-_}
 use mathlib.Core.Path.{_≡_}
 use mathlib.Core.Bool.{Bool, true, cond, _&&_}
 use mathlib.Core.List.{List}
 use lib.Dec.{ltb, leb}
-use lib.ListN.{length, getD}
-use lib.Ieee.{Float, nan, binary64, lt, le, eq, ne}
+use lib.ListN.{length}
+use lib.Ieee.{Float, binary64, lt, le, eq, ne}
 use lib.Ieee.Scale.{finite}
 use Rattle.laws.specs.Binary64.{_⊖_, _⊗_, _⊘_, whole, fraction, pi}
 use Rattle.laws.specs.Filled.{tabulate}
@@ -20,7 +20,6 @@ use Rattle.fir.specs.declared.window.Window.the-variants.{Hann, Hamming,
 use Rattle.fir.specs.declared.lowpass.Lowpass.{Lowpass}
 use Rattle.fir.specs.declared.lowpass.Designed.{Designed}
 use Rattle.fir.specs.declared.lowpass.Designed.the-variants.{Ready, Refused}
-use Rattle.fir.specs.declared.lowpass.Prepared.{Prepared}
 use Rattle.fir.specs.declared.lowpass.Filled.{Filled}
 use Rattle.fir.specs.declared.lowpass.Filled.the-variants as Filled
 
@@ -74,25 +73,6 @@ lowpassOf cutoff rate w n =
     (Refused (Plain 6)))
     (Refused (Range 2 (whole 0) (rate ⊘ whole 2) cutoff)))
     (Refused (Plain 1))
-
--- a list keeps the first values of g, n at most, those that it has places for
-abbrev pub KeepsOf : (ℕ → Float) → ℕ → List Float → Type 0
-KeepsOf g n rs = (i : ℕ) → i < n → i < length rs → getD rs i nan ≡ g i
-
--- a sum of n values, and a list that keeps the first of them
-pub record Totals (g : ℕ → Float) (n : ℕ) (sum : Float) (rs : List Float) : Type 0 where
-  pub is : sum ≡ sumTo binary64 g n
-  pub keeps : KeepsOf g n rs
-
--- a list keeps a design's first raw taps
-abbrev pub Keeps : Lowpass → Float → List Float → Type 0
-Keeps l i0 rs = KeepsOf (rawAt (l .fc) (l .window) i0 (l .n)) (l .n) rs
-
--- an answer that is the design d and, where it is one, the series at its beta, and a list that keeps its first raw taps
-pub record Prepares (d : Designed) (r : Prepared) (rs : List Float) : Type 0 where
-  pub is : r .designed ≡ d
-  pub kept : (l : Lowpass) → r .designed ≡ Ready l → r .i0 ≡ normOf (l .window)
-  pub raws : (l : Lowpass) → r .designed ≡ Ready l → Keeps l (r .i0) rs
 
 -- ---- the taps
 -- tap i of a design; 0 past the last one, and for a record that no design gives

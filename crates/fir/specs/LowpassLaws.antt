@@ -14,7 +14,8 @@ use Rattle.numbers.specs.Numbers.{positive}
 use Rattle.refusal.specs.declared.Refusal.{Refusal}
 use Rattle.refusal.specs.declared.Refusal.the-variants.{Plain, Range}
 use Rattle.fir.specs.Windows.{normOf}
-use Rattle.fir.specs.Lowpass.{divisorOf, inside, countTaken, betaTaken, usable, lowpassOf, rawAt, KeepsOf, Keeps, Prepares, tapWith, tapOf, tapsOf, answered, stored, Fills}
+use Rattle.fir.specs.Lowpass.{divisorOf, inside, countTaken, betaTaken, usable, lowpassOf, rawAt, tapWith, tapOf, tapsOf, answered, stored, Fills}
+use Rattle.fir.specs.Kept.{KeepsOf, Keeps, Prepares}
 use Rattle.fir.specs.declared.window.Window.{Window}
 use Rattle.fir.specs.declared.lowpass.Lowpass.{Lowpass}
 use Rattle.fir.specs.declared.lowpass.Designed.{Designed}

@@ -5,12 +5,11 @@ use super::window::window_at;
 use refusal::Refusal;
 ghost use mathlib.Core.Path.{_≡_};
 ghost use Prim.Native.Nat.{_^_, _<_, _≤_};
-ghost use lib.Ieee.{binary64};
 ghost use lib.ListN.{length, set};
-ghost use Rattle.laws.specs.Sums.{sumTo};
 ghost use Rattle.fir.specs.Windows.{normOf};
 ghost use Rattle.fir.specs.declared.lowpass.Lowpass.{Lowpass};
-ghost use Rattle.fir.specs.Lowpass.{sinc, rawAt, inside, countTaken, betaTaken, usable, lowpassOf, Prepares, Totals, Keeps, tapWith, tapOf, Fills, tapsOf};
+ghost use Rattle.fir.specs.Lowpass.{sinc, rawAt, inside, countTaken, betaTaken, usable, lowpassOf, tapWith, tapOf, Fills, tapsOf};
+ghost use Rattle.fir.specs.Kept.{Keeps, Totals, Prepares};
 
 const PI: f64 = 3.141592653589793;
 

@@ -12,7 +12,8 @@ use kaiser::order::kaiserord;
 use refusal::Refusal;
 ghost use mathlib.Core.Path.{_≡_};
 ghost use lib.ListN.{length};
-ghost use Rattle.fir.specs.Lowpass.{Prepares, Fills};
+ghost use Rattle.fir.specs.Lowpass.{Fills};
+ghost use Rattle.fir.specs.Kept.{Prepares};
 ghost use Rattle.fir.specs.Spec.{cutoffTaken, cappedOf, specOrderOf, numTapsOf, specLowpassOf, specDesignOf};
 
 // The cutoff, the width of the transition around it, and the attenuation in dB beyond it.

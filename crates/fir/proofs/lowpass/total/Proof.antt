@@ -5,9 +5,9 @@ use Prim.Native.Nat.{ℕ, _+_, _≤_, _-_}
 use native.Mathlib.Omega.{arith}
 use lib.ListN.{length, length-set}
 use lib.Ieee.{Float, binary64, add}
-use Rattle.laws.specs.Sums.{sum-none, sum-more}
-use Rattle.fir.specs.Lowpass.{rawAt, KeepsOf, Totals}
-use Rattle.fir.specs.KeptLaws.{keeps-none, keeps-more}
+use Rattle.fir.specs.Lowpass.{rawAt}
+use Rattle.fir.specs.Kept.{Totals}
+use Rattle.fir.specs.KeptLaws.{totals-none, totals-more}
 use Rattle.fir.proofs.lowpass.total.Statement.{statement}
 use Rattle.fir.proofs.lowpass.total.Tie as tie
 
@@ -20,7 +20,7 @@ abbrev μ-loop : tie.MeasureT-loop
 loop-holds : tie.Need-loop-holds Inv-loop μ-loop
 loop-holds c =
     let a = c .before .args in
-    (omega arith, refl, record { is = sum-none binary64 _; keeps = keeps-none (rawAt (a .fc) (a .w) (a .i0) (a .n)) (a .raws .now) })
+    (omega arith, refl, totals-none (rawAt (a .fc) (a .w) (a .i0) (a .n)) (a .raws .now))
 
 raw-at-requires : tie.Need-raw-at-requires Inv-loop μ-loop
 raw-at-requires c κs = (omega arith, omega arith)
@@ -40,14 +40,11 @@ loop-again c =
     let a = at .before .before .args in
     let g = rawAt (a .fc) (a .w) (a .i0) (a .n) in
     let v = c .before .before .before .before .raw-at in
-    let t = at .loop .inv .2 in
     let k = c .before .before .keep .ensures in (
       omega arith,
       ap length k ∙ length-set (at .loop .raws) (at .loop .i) (v .result) ∙ at .loop .inv .1,
-      record {
-        is = ap (λ (z : Float). add binary64 (at .loop .sum) z) (v .ensures) ∙ ap (λ (z : Float). add binary64 z (g (at .loop .i))) (t .is) ∙ sum-more binary64 g (at .loop .i);
-        keeps = subst (λ (rs : List Float). KeepsOf g (at .loop .i + 1) rs) (sym k) (keeps-more g (at .loop .i) (at .loop .raws) (v .result) (v .ensures) (t .keeps));
-      },
+      subst (λ (rs : List Float). Totals g (at .loop .i + 1) (add binary64 (at .loop .sum) (v .result)) rs) (sym k)
+          (totals-more g (at .loop .i) (at .loop .sum) (at .loop .raws) (v .result) (v .ensures) (at .loop .inv .2)),
     )
 
 same-length : tie.Need-same-length Inv-loop μ-loop
