@@ -32,7 +32,7 @@ fn spec(kind: usize, words: &[u64; 64]) -> Report {
     }
 }
 
-pub fn judge(kind: usize, words: &[u64; 64], count: usize) -> Verdict {
+pub(crate) fn judge(kind: usize, words: &[u64; 64], count: usize) -> Verdict {
     match kind {
         16 => told::judge(lowpass_new(words), words, ARGUMENTS, count),
         18 | 19 => told::judge(spec(kind, words), words, ARGUMENTS, count),
@@ -41,7 +41,7 @@ pub fn judge(kind: usize, words: &[u64; 64], count: usize) -> Verdict {
 }
 
 // Prints a line for each kind.
-pub fn report(counts: &[u64; COUNTS]) {
+pub(crate) fn report(counts: &[u64; COUNTS]) {
     tally::named(b"lowpass_new", 16, counts);
     tally::named(b"lowpass", 17, counts);
     tally::named(b"spec_num_taps", 18, counts);

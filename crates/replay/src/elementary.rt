@@ -30,7 +30,7 @@ fn say_name(kind: usize) {
     }
 }
 
-pub fn judge(kind: usize, words: &[u64; 64], count: usize) -> Verdict {
+pub(crate) fn judge(kind: usize, words: &[u64; 64], count: usize) -> Verdict {
     if count != 2 {
         return Verdict::Unreadable;
     }
@@ -43,7 +43,7 @@ pub fn judge(kind: usize, words: &[u64; 64], count: usize) -> Verdict {
 }
 
 // Prints a line for each kind.
-pub fn report(counts: &[u64; COUNTS]) {
+pub(crate) fn report(counts: &[u64; COUNTS]) {
     for kind in 1..=8 {
         say_name(kind);
         tally::of_kind(kind, counts);

@@ -40,7 +40,7 @@ fn judge_beta(words: &[u64; 64], count: usize) -> Verdict {
     tally::judged(pattern::agrees(beta, words[1]))
 }
 
-pub fn judge(kind: usize, words: &[u64; 64], count: usize) -> Verdict {
+pub(crate) fn judge(kind: usize, words: &[u64; 64], count: usize) -> Verdict {
     if kind == 12 {
         return judge_beta(words, count);
     }
@@ -48,7 +48,7 @@ pub fn judge(kind: usize, words: &[u64; 64], count: usize) -> Verdict {
 }
 
 // Prints a line for each kind.
-pub fn report(counts: &[u64; COUNTS]) {
+pub(crate) fn report(counts: &[u64; COUNTS]) {
     tally::named(b"bessel_i0", 11, counts);
     tally::named(b"kaiser_beta", 12, counts);
     tally::named(b"kaiserord", 13, counts);

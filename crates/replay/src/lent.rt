@@ -13,7 +13,7 @@ pub const ROOM: usize = 4104;
 const MARK: u8 = 0xA5;
 
 // Its length is said because lending a part of the array as a slice needs it.
-pub fn marked() -> [u8; ROOM]
+pub(crate) fn marked() -> [u8; ROOM]
     ensures { λ r. ⌜ 4104 ≡ length r ⌝ }
 {
     [MARK; ROOM]
@@ -49,7 +49,7 @@ fn is_marked(out: &[u8; ROOM], from: usize) -> bool {
 }
 
 // Do the taps whose words stand from index at make the start of the buffer, and does nothing else stand in it?
-pub fn holds(out: &[u8; ROOM], words: &[u64; 64], at: usize, taps: usize) -> bool
+pub(crate) fn holds(out: &[u8; ROOM], words: &[u64; 64], at: usize, taps: usize) -> bool
     requires { ⌜ (at ≤ 32) × (taps ≤ 32) ⌝ }
 {
     for i in 0..taps {

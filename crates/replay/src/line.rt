@@ -136,7 +136,7 @@ fn refused() -> Line
 }
 
 // The line of the first n bytes: its kind, how many words it has, and the words in words.
-pub fn take_apart(text: &[u8; TEXT], n: usize, words: &mut [u64; 64]) -> Line
+pub(crate) fn take_apart(text: &[u8; TEXT], n: usize, words: &mut [u64; 64]) -> Line
     ensures { λ r. ⌜ r .kind < 1000 ⌝ }
 {
     if n >= TEXT {

@@ -11,7 +11,7 @@ const SIGN: u64 = 0x8000_0000_0000_0000;
 const INFINITY: u64 = 0x7FF0_0000_0000_0000;
 
 // The float of a pattern.
-pub fn float_of(b: u64) -> f64
+pub(crate) fn float_of(b: u64) -> f64
     ensures { λ r. ⌜ r ≡ ofBits binary64 b ⌝ }
 {
     if b % SIGN > INFINITY {
@@ -22,14 +22,14 @@ pub fn float_of(b: u64) -> f64
 }
 
 // The float of the word at index i.
-pub fn float_at(words: &[u64; 64], i: usize) -> f64
+pub(crate) fn float_at(words: &[u64; 64], i: usize) -> f64
     requires { ⌜ i < 64 ⌝ }
 {
     float_of(words[i])
 }
 
 // Is b the pattern of x? Any NaN matches any NaN.
-pub fn agrees(x: f64, b: u64) -> bool
+pub(crate) fn agrees(x: f64, b: u64) -> bool
     ensures { λ r. ⌜ r ≡ agreesOf x b ⌝ }
 {
     if x != x {

@@ -18,7 +18,7 @@ pub enum Verdict {
     Unreadable,
 }
 
-pub fn judged(same: bool) -> Verdict {
+pub(crate) fn judged(same: bool) -> Verdict {
     if same {
         Verdict::Same
     } else {
@@ -36,7 +36,7 @@ pub struct Progress {
     pub unreadable: u64,
 }
 
-pub fn begun() -> Progress {
+pub(crate) fn begun() -> Progress {
     Progress {
         lines: 0,
         at: 0,
@@ -47,7 +47,7 @@ pub fn begun() -> Progress {
     }
 }
 
-pub fn say(text: &[u8]) {
+pub(crate) fn say(text: &[u8]) {
     io::write_all(STDOUT_FILENO, text);
 }
 
@@ -91,7 +91,12 @@ fn unreadable(p: Progress) -> Progress {
 }
 
 // One line more is whole, and this is what it came to.
-pub fn note(p: Progress, kind: usize, verdict: Verdict, counts: &mut [u64; COUNTS]) -> Progress
+pub(crate) fn note(
+    p: Progress,
+    kind: usize,
+    verdict: Verdict,
+    counts: &mut [u64; COUNTS],
+) -> Progress
     requires { ⌜ kind < 1000 ⌝ }
 {
     let mut q = p;
@@ -105,7 +110,7 @@ pub fn note(p: Progress, kind: usize, verdict: Verdict, counts: &mut [u64; COUNT
 }
 
 // The input is at its end. What stands there with no newline is no whole line.
-pub fn ended(p: Progress) -> Progress {
+pub(crate) fn ended(p: Progress) -> Progress {
     let mut q = p;
     q.at_end = true;
     if p.at != 0 {
@@ -123,7 +128,7 @@ fn say_counts(answers: u64, differ: u64) {
 }
 
 // : 150 answers, 0 differ
-pub fn of_kind(kind: usize, counts: &[u64; COUNTS])
+pub(crate) fn of_kind(kind: usize, counts: &[u64; COUNTS])
     requires { ⌜ kind < 1000 ⌝ }
 {
     say(b": ");
@@ -132,7 +137,7 @@ pub fn of_kind(kind: usize, counts: &[u64; COUNTS])
 }
 
 // delay: 40 answers, 0 differ
-pub fn named(name: &[u8], kind: usize, counts: &[u64; COUNTS])
+pub(crate) fn named(name: &[u8], kind: usize, counts: &[u64; COUNTS])
     requires { ⌜ kind < 1000 ⌝ }
 {
     say(name);
@@ -140,7 +145,7 @@ pub fn named(name: &[u8], kind: usize, counts: &[u64; COUNTS])
 }
 
 // 1600 answers, 0 differ, 0 unreadable lines
-pub fn total(p: Progress) {
+pub(crate) fn total(p: Progress) {
     say_counts(p.answers, p.differ);
     say(b", ");
     say_number(p.unreadable);

@@ -25,7 +25,7 @@ fn has_field(r: Report, index: usize, word: u64) -> bool {
 }
 
 // Is r the report that stands from index at?
-pub fn is_told(r: Report, words: &[u64; 64], at: usize) -> bool
+pub(crate) fn is_told(r: Report, words: &[u64; 64], at: usize) -> bool
     requires { ⌜ at ≤ 54 ⌝ }
 {
     for i in 0..FIELDS {
@@ -37,7 +37,7 @@ pub fn is_told(r: Report, words: &[u64; 64], at: usize) -> bool
 }
 
 // What a line comes to that has its report last, from index at.
-pub fn judge(r: Report, words: &[u64; 64], at: usize, count: usize) -> Verdict
+pub(crate) fn judge(r: Report, words: &[u64; 64], at: usize, count: usize) -> Verdict
     requires { ⌜ at ≤ 54 ⌝ }
 {
     if count != at + FIELDS {

@@ -69,7 +69,7 @@ fn compare(kind: usize, words: &[u64; 64], bytes: usize, at: usize, taps: usize)
     tally::judged(lent::holds(&out, words, at + FIELDS, taps))
 }
 
-pub fn judge(kind: usize, words: &[u64; 64], count: usize) -> Verdict {
+pub(crate) fn judge(kind: usize, words: &[u64; 64], count: usize) -> Verdict {
     let last = length_at(kind);
     let asked = words[last];
     if asked > LENT {
