@@ -20,3 +20,5 @@ pub mod SumError
 pub mod Sums
 pub mod Quotients
 pub mod Totals
+pub mod Codes
+pub mod CodeTotals

@@ -9,7 +9,7 @@ use lib.Dec.{T, lit≤, leb, leb→le, nleb→lt}
 use lib.ListN.{length}
 use lib.Pow.{pow-pos, pow-mono}
 use lib.Ieee.{Float, Format, prec, low, binary32, binary64, unlike, div, fits}
-use lib.Ieee.Fits.{two, two-le-pos}
+use lib.Ieee.Fits.{two, two-le-pos, div-fits}
 use lib.Ieee.Scale.{finite}
 use Rattle.laws.specs.Rounding.{Within, twice, times, cancel}
 use Rattle.laws.specs.Units.{mag, isNeg, part, plus, less, parts-mag, nought, nought-fits}
@@ -39,6 +39,16 @@ tap-error f x y a b u t =
 unfoldable pub quotients : Format → List Float → Float → List Float
 quotients f [] y = []
 quotients f (x ∷ xs) y = div f x y ∷ quotients f xs y
+
+pub quotients-fit : (f : Format) (xs : List Float) (y : Float) → Each (fits f) (quotients f xs y)
+unfolding quotients
+quotients-fit f [] y = tt
+quotients-fit f (x ∷ xs) y = (div-fits f x y, quotients-fit f xs y)
+
+pub quotients-length : (f : Format) (xs : List Float) (y : Float) → length (quotients f xs y) ≡ length xs
+unfolding quotients
+quotients-length f [] y = refl
+quotients-length f (x ∷ xs) y = ap suc (quotients-length f xs y)
 
 join : (P L H b pt nt fr br m pt' nt' fr' br' m' n : ℕ)
     → Within (P * (pt * b + br * L)) (P * (nt * b + fr * L)) (m * L + H * b)

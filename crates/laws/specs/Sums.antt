@@ -1,7 +1,7 @@
 -- The sum of g 0, g 1, .., g (n - 1) in that order, from +0, each addition rounded once; and that it is the sum of the list of them. Assumes nothing.
 use mathlib.Core.Path.{_≡_, refl, sym, ap, _∙_}
 use mathlib.Core.List.{List}
-use Prim.Native.Nat.{ℕ, zero, suc, _+_}
+use Prim.Native.Nat.{ℕ, zero, suc, _+_, _<_}
 use native.Mathlib.Numerals.{add-one}
 use native.Mathlib.Omega.{arith}
 use lib.Ieee.{Float, Format, binary32, binary64, add, ofBits}
@@ -21,6 +21,12 @@ sum-none f g = refl
 pub sum-more : (f : Format) (g : ℕ → Float) (n : ℕ) → add f (sumTo f g n) (g n) ≡ sumTo f g (n + 1)
 unfolding sumTo
 sum-more f g n = rw add-one
+
+-- equal terms, equal sums
+pub sum-below : (f : Format) (g h : ℕ → Float) (n : ℕ) → ((i : ℕ) → i < n → g i ≡ h i) → sumTo f g n ≡ sumTo f h n
+unfolding sumTo
+sum-below f g h zero e = refl
+sum-below f g h (suc n) e = ap (λ (z : Float). add f z (g n)) (sum-below f g h n (λ i b. e i (omega arith))) ∙ ap (λ (z : Float). add f (sumTo f h n) z) (e n (omega arith))
 
 -- ---- the same as a list's sum
 from : (f : Format) (g : ℕ → Float) (k n : ℕ) → total f (sumTo f g k) (tabulate n (λ i. g (k + i))) ≡ sumTo f g (k + n)

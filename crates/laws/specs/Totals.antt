@@ -1,7 +1,7 @@
 -- Sums of signed whole numbers, and the total of quotients by their sum over them: it is off 1 by n · (1 + A) / 2 ^ (prec - 1) at most, A the sum of the quotients' sizes. Assumes nothing.
-use mathlib.Core.Path.{_≡_, refl, sym, ap, _∙_, subst}
+use mathlib.Core.Path.{_≡_, refl, sym, ap, _∙_}
 use mathlib.Core.List.{List, [], _∷_}
-use Prim.Native.Nat.{ℕ, zero, suc, _+_, _-_, _*_, _/_, _^_, _≤_, _<_}
+use Prim.Native.Nat.{ℕ, zero, suc, _+_, _-_, _*_, _^_, _≤_, _<_}
 use native.Mathlib.Nat.{le-trans, zero-add, add-zero}
 use native.Mathlib.Omega.{arith}
 use mathlib.Core.Bool.{Bool, true, false, not, cond}
@@ -73,7 +73,7 @@ unfolding sumZ sumOf
 is-sum f [] = refl
 is-sum f (x ∷ xs) = is-add (units f x) (sumZ (units f) xs) (plus f x) (less f x) (sumOf (plus f) xs) (sumOf (less f) xs) (is-units f x) (is-sum f xs)
 
-abs-sum : (f : Format) (xs : List Float) → sumOf (λ x. natAbs (units f x)) xs ≡ sumOf (mag f) xs
+pub abs-sum : (f : Format) (xs : List Float) → sumOf (λ x. natAbs (units f x)) xs ≡ sumOf (mag f) xs
 unfolding sumOf
 abs-sum f [] = refl
 abs-sum f (x ∷ xs) = ap (λ (z : ℕ). z + sumOf (λ x. natAbs (units f x)) xs) (abs-units f x) ∙ ap (λ (z : ℕ). mag f x + z) (abs-sum f xs)

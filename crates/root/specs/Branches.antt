@@ -1,6 +1,6 @@
 -- What each branch of `sqrt` answers, from the tests that lead to it.
 use mathlib.Core.Path.{_≡_, refl, sym, _∙_}
-use mathlib.Core.Bool.{Bool, true, false, _&&_, _||_, Bool·beq, true≢false}
+use mathlib.Core.Bool.{Bool, true, false, _||_, Bool·beq, true≢false}
 use Prim.Native.Nat.{ℕ, zero, suc, _*_, _/_, _%_, _^_, _≤_, _<_}
 use native.Mathlib.Nat.{zero-lt-suc, le-of-eq, mul-pos}
 use native.Mathlib.Omega.{arith}
@@ -10,6 +10,7 @@ use lib.IntN.{ℤ}
 use lib.Ieee.{Float, nan, inf, fin, binary64, toBits, ofBits, fits, lt, eq, up, down}
 use lib.Ieee.Bits.{ofBits-fits}
 use lib.Ieee.Fits.{up-pos}
+use Rattle.laws.specs.Tests.{both}
 use Rattle.laws.specs.Units.{nought}
 use Rattle.root.specs.Sqrt.{sqrtOf}
 use Rattle.root.specs.Patterns.{magOf, bits-in, written}
@@ -64,11 +65,7 @@ at-zero (fin s zero e) a = refl
 at-zero (fin s (suc m) e) a =
     let n = suc m * up e * 1 in
     let z = 0 * down e in
-    absurd (no-zero m e (down e) (le-of-eq (eqb-true n z (both (eqb n z) (Bool·beq s false || eqb n 0) a))))
-  where
-    both : (a b : Bool) → a && b ≡ true → a ≡ true
-    both true b h = refl
-    both false b h = h
+    absurd (no-zero m e (down e) (le-of-eq (eqb-true n z (both (eqb n z) (Bool·beq s false || eqb n 0) a .0))))
 
 -- ---- below 0, and a NaN
 pub below-zero : (x : Float) → lt nought x ≡ false → eq x nought ≡ false → nan ≡ sqrtOf x
