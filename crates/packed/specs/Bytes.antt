@@ -1,11 +1,13 @@
 -- Numbers as bytes of a buffer, the lowest first. Definitions only.
-use Prim.Native.Nat.{ℕ, zero, suc, _+_, _/_, _%_}
+use Prim.Native.Nat.{ℕ, zero, suc, _+_, _-_, _*_, _/_, _%_}
 use mathlib.Core.List.{List, [], _∷_}
 use mathlib.Core.Bool.{cond}
 use lib.Dec.{leb}
-use lib.ListN.{length}
+use lib.ListN.{length, take, drop}
 use lib.Seq.{sets}
-use lib.Ieee.{Float, binary64, toBits}
+use lib.IntN.{ℤ, pos, negsuc}
+use lib.Ieee.{Float, binary64, toBits, ofBits}
+use Rattle.laws.specs.Filled.{tabulate}
 
 -- the w lowest bytes of n
 unfoldable pub bytesOf : ℕ → ℕ → List ℕ
@@ -16,6 +18,39 @@ bytesOf (suc w) n = n % 256 ∷ bytesOf w (n / 256)
 abbrev pub floatBytes : Float → List ℕ
 floatBytes x = bytesOf 8 (toBits binary64 x)
 
--- the buffer with the eight bytes of x from `at` on, as it is where they don't fit
-unfoldable pub putOf : List ℕ → ℕ → Float → List ℕ
-putOf d at x = cond (leb (at + 8) (length d)) (sets d at (floatBytes x)) d
+-- the 16 bits of a signed number as a number: `negsuc n` is −(n + 1), which stands for 65536 less that
+abbrev pub twosOf : ℤ → ℕ
+twosOf (pos n) = n
+twosOf (negsuc n) = 65535 - n
+
+-- the two bytes of a Q15 number
+abbrev pub codeBytes : ℤ → List ℕ
+codeBytes q = bytesOf 2 (twosOf q)
+
+-- the buffer with the w lowest bytes of n from `at` on, as it is where they don't fit
+unfoldable pub putOf : ℕ → List ℕ → ℕ → ℕ → List ℕ
+putOf w d at n = cond (leb (at + w) (length d)) (sets d at (bytesOf w n)) d
+
+-- ---- what bytes hold, read the lowest first
+-- a number
+unfoldable pub numberOf : List ℕ → ℕ
+numberOf [] = 0
+numberOf (b ∷ bs) = b + 256 * numberOf bs
+
+-- eight bytes as a number
+abbrev pub joined : ℕ → ℕ → ℕ → ℕ → ℕ → ℕ → ℕ → ℕ → ℕ
+joined a b c d e f g h = a + 256 * b + 65536 * c + 16777216 * d + 4294967296 * (e + 256 * f + 65536 * g + 16777216 * h)
+
+-- the f64 in eight bytes, and the n of a buffer
+abbrev pub floatOf : List ℕ → Float
+floatOf bs = ofBits binary64 (numberOf bs)
+
+abbrev pub floatAt : List ℕ → ℕ → Float
+floatAt d at = floatOf (take 8 (drop at d))
+
+abbrev pub floatsIn : ℕ → List ℕ → List Float
+floatsIn n d = tabulate n (λ i. floatAt d (8 * i))
+
+-- the f64 in the eight bytes from `at` on; 0 where they aren't all there
+unfoldable pub getOf : List ℕ → ℕ → Float
+getOf d at = cond (leb (at + 8) (length d)) (floatAt d at) (ofBits binary64 0)

@@ -1,15 +1,15 @@
--- How many bytes there are, and a buffer that is filled with the bytes of floats, one float a turn. Assumes nothing.
+-- How many bytes there are, and a buffer that is filled with the bytes of numbers, one number a turn. Assumes nothing.
 use mathlib.Core.Path.{_≡_, refl, ap, _∙_}
 use mathlib.Core.List.{List}
 use Prim.Native.Nat.{ℕ, zero, suc, _+_, _*_, _/_, _%_, _-_, _<_, _≤_}
+use native.Mathlib.Nat.{mul-suc}
 use native.Mathlib.Numerals.{add-one}
 use native.Mathlib.Omega.{arith}
 use borrow.Author.Tests.{le-leb, lt-leb}
 use lib.ListN.{length, set}
 use lib.Seq.{sets}
-use lib.Ieee.{Float, binary64, toBits}
 use Rattle.laws.specs.Chunks.{chunks, chunked, chunk-none, chunk-more, chunk-all, length-chunked}
-use Rattle.packed.specs.Bytes.{bytesOf, floatBytes, putOf}
+use Rattle.packed.specs.Bytes.{bytesOf, putOf}
 
 pub length-bytes : (w n : ℕ) → length (bytesOf w n) ≡ w
 unfolding bytesOf
@@ -30,32 +30,34 @@ store-next d end i n h =
     rw (e, add-one)
 
 -- where the bytes fit, and where not
-pub put-fits : (d : List ℕ) (at : ℕ) (x : Float) → at + 8 ≤ length d → putOf d at x ≡ sets d at (floatBytes x)
-unfolding putOf
-put-fits d at x h = rw (le-leb (at + 8) (length d) h)
+module _ (w : ℕ) (d : List ℕ) (at n : ℕ) where
+  pub put-fits : at + w ≤ length d → putOf w d at n ≡ sets d at (bytesOf w n)
+  unfolding putOf
+  put-fits h = rw (le-leb (at + w) (length d) h)
 
-pub put-short : (d : List ℕ) (at : ℕ) (x : Float) → length d < at + 8 → putOf d at x ≡ d
-unfolding putOf
-put-short d at x h = rw (lt-leb (at + 8) (length d) h)
+  pub put-short : length d < at + w → putOf w d at n ≡ d
+  unfolding putOf
+  put-short h = rw (lt-leb (at + w) (length d) h)
 
--- a buffer filled with the bytes of the floats g 0, g 1, ..: at first, one more, its length, and all of them
-module _ (g : ℕ → Float) where
+-- a buffer filled with the w lowest bytes of the numbers g 0, g 1, ..: at first, one more, its length, and all of them
+module _ (w : ℕ) (g : ℕ → ℕ) where
   abbrev bytes : ℕ → List ℕ
-  bytes i = floatBytes (g i)
+  bytes i = bytesOf w (g i)
 
-  width : (i : ℕ) → length (bytes i) ≡ 8
-  width i = length-bytes 8 (toBits binary64 (g i))
+  width : (i : ℕ) → length (bytes i) ≡ w
+  width i = length-bytes w (g i)
 
-  pub put-none : (d : List ℕ) → d ≡ chunked 8 0 bytes d
-  put-none d = chunk-none 8 bytes width d
+  pub put-none : (d : List ℕ) → d ≡ chunked w 0 bytes d
+  put-none d = chunk-none w bytes width d
 
-  pub put-length : (n : ℕ) (d : List ℕ) → 8 * n ≤ length d → length (chunked 8 n bytes d) ≡ length d
-  put-length n d h = length-chunked 8 bytes width n d h
+  pub put-length : (n : ℕ) (d : List ℕ) → w * n ≤ length d → length (chunked w n bytes d) ≡ length d
+  put-length n d h = length-chunked w bytes width n d h
 
-  pub put-more : (n : ℕ) (d : List ℕ) → 8 * (n + 1) ≤ length d → putOf (chunked 8 n bytes d) (8 * n) (g n) ≡ chunked 8 (n + 1) bytes d
+  pub put-more : (n : ℕ) (d : List ℕ) → w * (n + 1) ≤ length d → putOf w (chunked w n bytes d) (w * n) (g n) ≡ chunked w (n + 1) bytes d
   put-more n d h =
-      let l = put-length n d (omega arith) in
-      put-fits (chunked 8 n bytes d) (8 * n) (g n) (omega arith) ∙ chunk-more 8 bytes width n d h
+      let m : w * (n + 1) ≡ w * n + w = rw (add-one, mul-suc) refl in
+      let l = put-length n d (omega (arith, m)) in
+      put-fits w (chunked w n bytes d) (w * n) (g n) (omega (arith, m, l)) ∙ chunk-more w bytes width n d h
 
-  pub put-all : (n : ℕ) (d : List ℕ) → length d ≤ 8 * n → chunked 8 n bytes d ≡ chunks n bytes
-  put-all n d h = chunk-all 8 bytes width n d h
+  pub put-all : (n : ℕ) (d : List ℕ) → length d ≤ w * n → chunked w n bytes d ≡ chunks n bytes
+  put-all n d h = chunk-all w bytes width n d h

@@ -1,3 +1,4 @@
 pub mod Bytes
 pub mod Laws
+pub mod Signed
 pub mod Read

@@ -1,37 +1,25 @@
--- What bytes hold, read the lowest first: a number, and a buffer's f64s; reading gives back what was written. Assumes nothing.
+-- Reading gives back what was written: a number, and a buffer's f64s. Assumes nothing.
 use mathlib.Core.Path.{_≡_, refl, sym, ap, _∙_}
-use mathlib.Core.List.{List, [], _∷_, _++_, append-nil}
+use mathlib.Core.List.{List, [], _∷_, _++_}
 use Prim.Native.Nat.{ℕ, zero, suc, _+_, _*_, _/_, _%_, _^_, _≤_, _<_}
-use native.Mathlib.Nat.{le-refl, lt-of-lt-of-le, le-of-eq, pow-suc, div-add-mod', div-lt-iff-lt-mul, mul-comm, mul-suc, zero-lt-suc, not-suc-le-zero, le-of-suc-le-suc}
-use native.Mathlib.Numerals.{add-one}
+use native.Mathlib.Nat.{lt-of-lt-of-le, le-of-eq, pow-suc, div-lt-iff-lt-mul, not-suc-le-zero}
 use native.Mathlib.Omega.{arith}
+use borrow.Author.Tests.{le-leb, lt-leb}
 use lib.Dec.{T, lit≤}
-use lib.ListN.{length, take, drop, length-drop}
-use lib.Seq.{take-all, drop-at, take-append-le, drop-append-le}
+use lib.ListN.{length, take, drop, getD, length-drop}
+use lib.Seq.{drop-cons, take-all, drop-at, take-append-le, drop-append-le}
 use lib.Ieee.{Float, binary64, ofBits, toBits, fits}
 use lib.Ieee.Bits.{ofBits-toBits, toBits-lt}
 use Rattle.laws.specs.Cases.{either}
 use Rattle.laws.specs.Numbers.{lt-or-le}
 use Rattle.laws.specs.Chunks.{chunks, length-chunks}
 use Rattle.laws.specs.Filled.{tabulate, tabulate-below}
-use Rattle.packed.specs.Bytes.{bytesOf, floatBytes}
+use Rattle.packed.specs.Bytes.{bytesOf, floatBytes, numberOf, joined, floatOf, floatAt, floatsIn, getOf}
 use Rattle.packed.specs.Laws.{length-bytes}
 
--- the number that bytes hold
-unfoldable pub numberOf : List ℕ → ℕ
-numberOf [] = 0
-numberOf (b ∷ bs) = b + 256 * numberOf bs
-
--- the f64 in eight bytes, and the n of a buffer
-abbrev pub floatOf : List ℕ → Float
-floatOf bs = ofBits binary64 (numberOf bs)
-
-abbrev pub floatsIn : ℕ → List ℕ → List Float
-floatsIn n bs = tabulate n (λ i. floatOf (take 8 (drop (8 * i) bs)))
-
 -- ---- a number
-joined : (n : ℕ) → n % 256 + 256 * (n / 256) ≡ n
-joined n = omega arith
+rejoined : (n : ℕ) → n % 256 + 256 * (n / 256) ≡ n
+rejoined n = omega arith
 
 less : (n p : ℕ) → n < p * 256 → n / 256 < p
 less n p h = div-lt-iff-lt-mul (lit≤ tt) .1 h
@@ -42,7 +30,7 @@ number-bytes zero n h = go n h
   where
     go : (n : ℕ) → n < 1 → 0 ≡ n
     go n h = omega arith
-number-bytes (suc w) n h = ap (λ (z : ℕ). n % 256 + 256 * z) (number-bytes w (n / 256) (less n (256 ^ w) (lt-of-lt-of-le h (le-of-eq (pow-suc 256 w))))) ∙ joined n
+number-bytes (suc w) n h = ap (λ (z : ℕ). n % 256 + 256 * z) (number-bytes w (n / 256) (less n (256 ^ w) (lt-of-lt-of-le h (le-of-eq (pow-suc 256 w))))) ∙ rejoined n
 
 pub float-bytes : (x : Float) → T (fits binary64 x) → floatOf (floatBytes x) ≡ x
 float-bytes x t = ap (λ (z : ℕ). ofBits binary64 z) (number-bytes 8 (toBits binary64 x) (lt-of-lt-of-le (toBits-lt binary64 x t) (lit≤ tt))) ∙ ofBits-toBits binary64 x t
@@ -77,3 +65,35 @@ pub floats-back : (n : ℕ) (t : ℕ → Float) → ((i : ℕ) → T (fits binar
 floats-back n t f =
     tabulate-below n (λ i. floatOf (take 8 (drop (8 * i) (chunks n (λ i. floatBytes (t i)))))) t
     (λ i h. ap floatOf (chunk-at (λ i. floatBytes (t i)) (λ i. length-bytes 8 (toBits binary64 (t i))) n i h) ∙ float-bytes (t i) (f i))
+
+-- ---- eight bytes one by one
+next : (d : List ℕ) (at k n : ℕ) → at < length d → n ≡ suc at → numberOf (take (suc k) (drop at d)) ≡ getD d at 0 + 256 * numberOf (take k (drop n d))
+unfolding numberOf
+next d at k n h e = rw (drop-cons d at 0 h, e)
+
+none : (d : List ℕ) → numberOf (take 0 d) ≡ 0
+unfolding numberOf
+none [] = refl
+none (b ∷ d) = refl
+
+pub eight : (d : List ℕ) (at : ℕ) → at + 8 ≤ length d → joined (getD d at 0) (getD d (at + 1) 0) (getD d (at + 2) 0) (getD d (at + 3) 0) (getD d (at + 4) 0) (getD d (at + 5) 0) (getD d (at + 6) 0) (getD d (at + 7) 0) ≡ numberOf (take 8 (drop at d))
+eight d at h =
+    let e0 = next d at 7 (at + 1) (omega arith) (omega arith) in
+    let e1 = next d (at + 1) 6 (at + 2) (omega arith) (omega arith) in
+    let e2 = next d (at + 2) 5 (at + 3) (omega arith) (omega arith) in
+    let e3 = next d (at + 3) 4 (at + 4) (omega arith) (omega arith) in
+    let e4 = next d (at + 4) 3 (at + 5) (omega arith) (omega arith) in
+    let e5 = next d (at + 5) 2 (at + 6) (omega arith) (omega arith) in
+    let e6 = next d (at + 6) 1 (at + 7) (omega arith) (omega arith) in
+    let e7 = next d (at + 7) 0 (at + 8) (omega arith) (omega arith) in
+    omega (arith, e0, e1, e2, e3, e4, e5, e6, e7, none (drop (at + 8) d))
+
+-- where the bytes are all there, and where not
+module _ (d : List ℕ) (at : ℕ) where
+  pub get-fits : at + 8 ≤ length d → getOf d at ≡ floatAt d at
+  unfolding getOf
+  get-fits h = rw (le-leb (at + 8) (length d) h)
+
+  pub get-short : length d < at + 8 → getOf d at ≡ ofBits binary64 0
+  unfolding getOf
+  get-short h = rw (lt-leb (at + 8) (length d) h)
