@@ -25,8 +25,12 @@ pub record Totals (g : ℕ → Float) (n : ℕ) (sum : Float) (rs : List Float) 
 abbrev pub Keeps : Lowpass → Float → List Float → Type 0
 Keeps l i0 rs = KeepsOf (rawAt (l .fc) (l .window) i0 (l .n)) (l .n) rs
 
+-- an answer that, where it is a design, has the series at its beta
+abbrev pub Normed : Prepared → Type 0
+Normed p = (l : Lowpass) → p .designed ≡ Ready l → p .i0 ≡ normOf (l .window)
+
 -- an answer that is the design d and, where it is one, the series at its beta, and a list that keeps its first raw taps
 pub record Prepares (d : Designed) (r : Prepared) (rs : List Float) : Type 0 where
   pub is : r .designed ≡ d
-  pub kept : (l : Lowpass) → r .designed ≡ Ready l → r .i0 ≡ normOf (l .window)
+  pub kept : Normed r
   pub raws : (l : Lowpass) → r .designed ≡ Ready l → Keeps l (r .i0) rs

@@ -1,5 +1,7 @@
 pub mod Delay
 pub mod Windows
+pub mod Outcome
+pub mod OutcomeLaws
 pub mod Lowpass
 pub mod Kept
 pub mod KeptLaws

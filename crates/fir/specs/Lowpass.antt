@@ -1,11 +1,9 @@
 -- The windowed-sinc low-pass of n taps with the cutoff fc, a fraction of the rate. Definitions only.
 --   h[i] = 2 fc sinc(2 fc (i − m)) w[i],  m = (n − 1)/2,  sinc x = sin(π x)/(π x),  sinc 0 = 1;  tap i is h[i] / Σ h
 use Prim.Native.Nat.{ℕ, _-_}
-use mathlib.Core.Path.{_≡_}
 use mathlib.Core.Bool.{Bool, true, cond, _&&_}
 use mathlib.Core.List.{List}
 use lib.Dec.{ltb, leb}
-use lib.ListN.{length}
 use lib.Ieee.{Float, binary64, lt, le, eq, ne}
 use lib.Ieee.Scale.{finite}
 use Rattle.laws.specs.Binary64.{_⊖_, _⊗_, _⊘_, whole, fraction, pi}
@@ -14,14 +12,13 @@ use Rattle.laws.specs.Sums.{sumTo}
 use Rattle.numbers.specs.Numbers.{positive}
 use Rattle.refusal.specs.declared.Refusal.the-variants.{Plain, Range}
 use Rattle.trig.specs.Trig.{sinOf}
+use Rattle.fir.specs.Outcome.{Outcome, Made, Turned}
 use Rattle.fir.specs.Windows.{normOf, windowAt}
 use Rattle.fir.specs.declared.window.Window.{Window}
 use Rattle.fir.specs.declared.window.Window.the-variants.{Hann, Hamming, Blackman, Kaiser}
 use Rattle.fir.specs.declared.lowpass.Lowpass.{Lowpass}
 use Rattle.fir.specs.declared.lowpass.Designed.{Designed}
 use Rattle.fir.specs.declared.lowpass.Designed.the-variants.{Ready, Refused}
-use Rattle.fir.specs.declared.lowpass.Filled.{Filled}
-use Rattle.fir.specs.declared.lowpass.Filled.the-variants as Filled
 
 -- ---- the raw taps
 unfoldable pub sinc : Float → Float
@@ -88,16 +85,7 @@ unfoldable pub tapsOf : Lowpass → Float → ℕ → List Float
 unfolding tapWith
 tapsOf l i0 n = tabulate n (tapWith l i0)
 
--- ---- a buffer: filled, or as it came
-abbrev pub answered : Designed → Filled
-answered (Ready l) = Filled.Done
-answered (Refused why) = Filled.Refused why
-
-abbrev pub stored : Designed → List Float → List Float
-stored (Ready l) d = tabulate (length d) (tapOf l)
-stored (Refused why) d = d
-
--- what the answer and the buffer are after the design d
-pub record Fills (d : Designed) (before : List Float) (r : Filled) (after : List Float) : Type 0 where
-  pub answer : r ≡ answered d
-  pub buffer : after ≡ stored d before
+-- ---- what comes of a ticket
+abbrev pub outcomeOf : Designed → Outcome
+outcomeOf (Ready l) = Made (l .n) (l .sum) (tapOf l)
+outcomeOf (Refused why) = Turned why

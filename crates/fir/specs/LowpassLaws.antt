@@ -1,6 +1,6 @@
 -- Each outcome of the judgement of a low-pass, from what the tests said. Assumes nothing.
 use mathlib.Core.Path.{_≡_, refl, sym, ap, _∙_, subst}
-use mathlib.Core.Bool.{Bool, true, false, cond, _&&_, true≢false}
+use mathlib.Core.Bool.{Bool, true, false, cond}
 use mathlib.Core.List.{List}
 use Prim.Native.Nat.{ℕ, _≤_, _<_}
 use native.Mathlib.Omega.{arith}
@@ -10,11 +10,14 @@ use lib.ListN.{length}
 use lib.Ieee.{Float}
 use Rattle.laws.specs.Binary64.{_⊘_, whole}
 use Rattle.laws.specs.Filled.{tabulate}
+use Rattle.laws.specs.Tests.{both}
 use Rattle.numbers.specs.Numbers.{positive}
 use Rattle.refusal.specs.declared.Refusal.{Refusal}
 use Rattle.refusal.specs.declared.Refusal.the-variants.{Plain, Range}
+use Rattle.fir.specs.Outcome.{Fills}
+use Rattle.fir.specs.OutcomeLaws as Outcome
 use Rattle.fir.specs.Windows.{normOf}
-use Rattle.fir.specs.Lowpass.{divisorOf, inside, countTaken, betaTaken, usable, lowpassOf, rawAt, tapWith, tapOf, tapsOf, answered, stored, Fills}
+use Rattle.fir.specs.Lowpass.{divisorOf, inside, countTaken, betaTaken, usable, lowpassOf, rawAt, tapWith, tapOf, tapsOf, outcomeOf}
 use Rattle.fir.specs.Kept.{KeepsOf, Keeps, Prepares}
 use Rattle.fir.specs.declared.window.Window.{Window}
 use Rattle.fir.specs.declared.lowpass.Lowpass.{Lowpass}
@@ -27,22 +30,14 @@ use Rattle.fir.specs.declared.lowpass.Filled.the-variants as Filled
 -- a count that is taken is at most 2^24
 pub count-most : (n : ℕ) → countTaken n ≡ true → n ≤ 16777216
 unfolding countTaken
-count-most n h = go (ltb 0 n) (leb n 16777216) (leb-true n 16777216) h
-  where
-    go : (a b : Bool) → (b ≡ true → n ≤ 16777216) → a && b ≡ true → n ≤ 16777216
-    go true b k h = k h
-    go false b k h = absurd (true≢false (sym h))
+count-most n h = leb-true n 16777216 (both (ltb 0 n) (leb n 16777216) h .1)
 
 pub count-least : (n : ℕ) → countTaken n ≡ true → 0 < n
 unfolding countTaken
-count-least n h = go (ltb 0 n) (leb n 16777216) (ltb-true 0 n) h
-  where
-    go : (a b : Bool) → (a ≡ true → 0 < n) → a && b ≡ true → 0 < n
-    go true b k h = k refl
-    go false b k h = absurd (true≢false (sym h))
+count-least n h = ltb-true 0 n (both (ltb 0 n) (leb n 16777216) h .0)
 
 -- a refusal is no design
-never : (why : Refusal) (l : Lowpass) → Refused why ≡ Ready l → ⊥
+pub never : (why : Refusal) (l : Lowpass) → Refused why ≡ Ready l → ⊥
 never why l g = let z : _≡_ {A = ℕ} 0 1 = cc in omega arith
 
 module _ (cutoff rate : Float) (w : Window) (n : ℕ) where
@@ -117,16 +112,16 @@ ready-is cutoff rate w n l e = go (positive rate) (inside (cutoff ⊘ rate)) (co
 
 -- ---- a buffer
 module _ (g : Designed) (d : List Float) where
-  pub fills : (l : Lowpass) (i0 : Float) (after : List Float) → g ≡ Ready l → i0 ≡ normOf (l .window) → after ≡ tapsOf l i0 (length d) → Fills g d Filled.Done after
+  pub fills : (l : Lowpass) (i0 : Float) (after : List Float) → g ≡ Ready l → i0 ≡ normOf (l .window) → after ≡ tapsOf l i0 (length d) → Fills (outcomeOf g) d Filled.Done after
   unfolding tapsOf tapOf
-  fills l i0 after h k e = record { answer = sym (ap answered h); buffer = e ∙ ap (λ (z : Float). tabulate (length d) (tapWith l z)) k ∙ sym (ap (λ (z : Designed). stored z d) h) }
+  fills l i0 after h k e = Outcome.fills (ap outcomeOf h) (e ∙ ap (λ (z : Float). tabulate (length d) (tapWith l z)) k)
 
-  pub leaves : (why : Refusal) → g ≡ Refused why → Fills g d (Filled.Refused why) d
-  leaves why h = record { answer = sym (ap answered h); buffer = sym (ap (λ (z : Designed). stored z d) h) }
+  pub leaves : (why : Refusal) → g ≡ Refused why → Fills (outcomeOf g) d (Filled.Refused why) d
+  leaves why h = Outcome.leaves why (ap outcomeOf h)
 
 -- ---- for an equal design
-pub fills-as : {d e : Designed} {b a : List Float} {r : Filled} → d ≡ e → Fills d b r a → Fills e b r a
-fills-as {d} {e} {b} {a} {r} p f = subst (λ (z : Designed). Fills z b r a) p f
+pub fills-as : {d e : Designed} {b a : List Float} {r : Filled} → d ≡ e → Fills (outcomeOf d) b r a → Fills (outcomeOf e) b r a
+fills-as p f = Outcome.fills-as (ap outcomeOf p) f
 
 pub prepares-as : {d e : Designed} {r : Prepared} {rs : List Float} → d ≡ e → Prepares d r rs → Prepares e r rs
 prepares-as {d} {e} {r} {rs} p f = subst (λ (z : Designed). Prepares z r rs) p f

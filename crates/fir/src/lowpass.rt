@@ -6,10 +6,9 @@ use refusal::Refusal;
 ghost use mathlib.Core.Path.{_≡_};
 ghost use Prim.Native.Nat.{_^_, _<_, _≤_};
 ghost use lib.ListN.{length, set};
-ghost use Rattle.fir.specs.Windows.{normOf};
-ghost use Rattle.fir.specs.declared.lowpass.Lowpass.{Lowpass};
-ghost use Rattle.fir.specs.Lowpass.{sinc, rawAt, inside, countTaken, betaTaken, usable, lowpassOf, tapWith, tapOf, Fills, tapsOf};
-ghost use Rattle.fir.specs.Kept.{Keeps, Totals, Prepares};
+ghost use Rattle.fir.specs.Lowpass.{sinc, rawAt, inside, countTaken, betaTaken, usable, lowpassOf, tapWith, tapOf, tapsOf, outcomeOf};
+ghost use Rattle.fir.specs.Outcome.{Fills};
+ghost use Rattle.fir.specs.Kept.{Keeps, Totals, Normed, Prepares};
 
 const PI: f64 = 3.141592653589793;
 
@@ -64,7 +63,7 @@ fn raw_at(fc: f64, w: Window, i0: f64, n: u64, i: u64) -> f64
 }
 
 // Stores v at i where the list has that place.
-fn keep(raws: &mut [f64], i: u64, v: f64)
+pub fn keep(raws: &mut [f64], i: u64, v: f64)
     ensures { λ _. ⌜ now (raws .exit) ≡ set (now (raws .entry)) i v ⌝ }
 {
     let k = i as usize;
@@ -116,7 +115,7 @@ fn takes_beta(w: Window) -> bool
 }
 
 // Whether taps can be divided by s.
-fn is_usable(s: f64) -> bool
+pub fn is_usable(s: f64) -> bool
     ensures { λ r. ⌜ r ≡ usable s ⌝ }
 {
     numbers::is_finite(s) && s != 0.0
@@ -234,10 +233,9 @@ fn fill(lp: Lowpass, i0: f64, taps: &mut [f64])
     }
 }
 
-// Fills the buffer by a design, or leaves it.
-pub(crate) fn finish(p: Prepared, taps: &mut [f64]) -> Filled
-    requires { ⌜ ((l : Lowpass) → p .designed ≡ Designed.Ready l → p .i0 ≡ normOf (l .window)) ⌝ }
-    ensures { λ r. ⌜ Fills (p .designed) (now (taps .entry)) r (now (taps .exit)) ⌝ }
+// Fills the buffer by a design that comes with the series at its beta, or leaves it.
+pub fn finish(p: Prepared, taps: &mut [f64]) -> Filled
+    ensures { λ r. ⌜ (Normed p → Fills (outcomeOf (p .designed)) (now (taps .entry)) r (now (taps .exit))) ⌝ }
 {
     let designed = p.designed;
     match designed {
@@ -251,7 +249,7 @@ pub(crate) fn finish(p: Prepared, taps: &mut [f64]) -> Filled
 
 // The low-pass of as many taps as the buffer has elements; refused as `prepare`, with the buffer as it came. Example: Hann, cutoff 0.25 at rate 1: one tap is 1, two are refused with 10.
 pub fn firwin_lowpass(cutoff: f64, rate: f64, window: Window, taps: &mut [f64]) -> Filled
-    ensures { λ r. ⌜ Fills (lowpassOf cutoff rate window (length (now (taps .entry)))) (now (taps .entry)) r (now (taps .exit)) ⌝ }
+    ensures { λ r. ⌜ Fills (outcomeOf (lowpassOf cutoff rate window (length (now (taps .entry))))) (now (taps .entry)) r (now (taps .exit)) ⌝ }
 {
     let mut none = [0.0f64; 1];
     let p = prepare(cutoff, rate, window, taps.len() as u64, &mut none);

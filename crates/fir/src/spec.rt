@@ -12,7 +12,8 @@ use kaiser::order::kaiserord;
 use refusal::Refusal;
 ghost use mathlib.Core.Path.{_≡_};
 ghost use lib.ListN.{length};
-ghost use Rattle.fir.specs.Lowpass.{Fills};
+ghost use Rattle.fir.specs.Outcome.{Fills};
+ghost use Rattle.fir.specs.Lowpass.{outcomeOf};
 ghost use Rattle.fir.specs.Kept.{Prepares};
 ghost use Rattle.fir.specs.Spec.{cutoffTaken, cappedOf, specOrderOf, numTapsOf, specLowpassOf, specDesignOf};
 
@@ -114,7 +115,7 @@ impl DesignSpec {
 
     // Fills the buffer, whose length must be that of `num_taps`; refused as `spec_prepare`, with the buffer as it came.
     pub fn design(self, rate: f64, cap: u64, taps: &mut [f64]) -> Filled
-        ensures { λ r. ⌜ Fills (specDesignOf self rate cap (length (now (taps .entry)))) (now (taps .entry)) r (now (taps .exit)) ⌝ }
+        ensures { λ r. ⌜ Fills (outcomeOf (specDesignOf self rate cap (length (now (taps .entry))))) (now (taps .entry)) r (now (taps .exit)) ⌝ }
     {
         let mut none = [0.0f64; 1];
         let p = spec_prepare(self, rate, cap, taps.len() as u64, &mut none);

@@ -22,7 +22,7 @@ pub enum Length {
 }
 
 // The estimate (a − 7.95) / 2.285 / (π width) + 1.
-fn taps_estimate(a: f64, width: f64) -> f64
+pub fn taps_estimate(a: f64, width: f64) -> f64
     ensures { λ r. ⌜ r ≡ estimate a width ⌝ }
 {
     (a - 7.95) / 2.285 / (PI * width) + 1.0

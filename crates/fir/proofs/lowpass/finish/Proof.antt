@@ -18,13 +18,13 @@ same-length : tie.Need-same-length
 same-length c = search needs
 
 returns : tie.Need-returns
-returns c =
+returns c k =
     let d = c .before .before .before .before .before .designed .given in
     let s = c .before .before .before .before .before .before .before .before in
-    fills (s .args .p .designed) (now (s .args .taps)) (d .0 .0) (s .args .p .i0) _ (d .1) (s .pre (d .0 .0) (d .1)) (c .before .before .fill .ensures)
+    fills (s .args .p .designed) (now (s .args .taps)) (d .0 .0) (s .args .p .i0) _ (d .1) (k (d .0 .0) (d .1)) (c .before .before .fill .ensures)
 
 returns-2 : tie.Need-returns-2
-returns-2 c =
+returns-2 c k =
     let d = c .before .designed2 .given in
     let s = c .before .before .before .before in
     leaves (s .args .p .designed) (now (s .args .taps)) (d .0 .0) (d .1)

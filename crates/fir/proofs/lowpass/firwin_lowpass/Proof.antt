@@ -1,7 +1,6 @@
 -- `fir::lowpass::firwin_lowpass` meets its contract. Assumes nothing.
 use mathlib.Core.Path.{refl}
 use Rattle.fir.specs.LowpassLaws.{fills-as}
-use native.Mathlib.Omega.{arith}
 use borrow.Author.Needs.{needs}
 use Rattle.fir.proofs.lowpass.firwin_lowpass.Statement.{statement}
 use Rattle.fir.proofs.lowpass.firwin_lowpass.Tie as tie
@@ -13,13 +12,13 @@ prepare-requires : tie.Need-prepare-requires
 prepare-requires c κs = tt
 
 finish-requires : tie.Need-finish-requires
-finish-requires c κs = c .before .before .prepare .ensures .kept
+finish-requires c κs = tt
 
 same-length : tie.Need-same-length
 same-length c = search needs
 
 returns : tie.Need-returns
-returns c = fills-as (c .before .before .before .before .before .prepare .ensures .is) (c .before .before .finish .ensures)
+returns c = fills-as (c .before .before .before .before .before .prepare .ensures .is) (c .before .before .finish .ensures (c .before .before .before .before .before .prepare .ensures .kept))
 
 pub firwin-lowpass-spec : {M : Type 1} → statement M
 firwin-lowpass-spec =
