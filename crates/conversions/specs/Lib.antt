@@ -1,0 +1,2 @@
+pub mod Q15
+pub mod Q15Laws
