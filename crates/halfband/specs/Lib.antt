@@ -1,0 +1,5 @@
+pub mod Halfband
+pub mod HalfbandLaws
+pub mod Distance
+pub mod Agree
+pub mod Mirror
