@@ -1,0 +1,2 @@
+pub mod Gaussian
+pub mod GaussianLaws

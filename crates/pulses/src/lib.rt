@@ -1,0 +1,3 @@
+// Pulse shapes: filters that make a symbol's samples.
+pub mod gaussian;
+pub mod gaussian_design;
