@@ -1,0 +1,2 @@
+pub mod Channelizer
+pub mod ChannelizerLaws
