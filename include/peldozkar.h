@@ -3,7 +3,8 @@
  * Link with libborder.a, which `rt staticlib border` writes. Each function is proved to give the value
  * that is said here for every argument, NaN, infinities, zeros of both signs, subnormal numbers and
  * impossible counts included; it allocates nothing, keeps nothing, calls nothing and always returns.
- * On the stack pel_lowpass and pel_spec_design take under 9 KB, the others under 1 KB (x86-64).
+ * On the stack pel_lowpass, pel_spec_design, pel_halfband, pel_gaussian and pel_channelizer_prototype take
+ * under 9 KB, the others under 1 KB (x86-64).
  *
  * The bits are the same on every reader: each operation is rounded once to a double, to the nearest,
  * ties to even. A NaN's sign and payload are free.
@@ -58,14 +59,16 @@ double pel_pow04(double v);
  *
  *   number  who caused it            what is wrong
  *   1       the ticket's author      the rate
- *   2                                the cutoff
+ *   2                                the cutoff or a band edge
  *   3                                the transition, or a length past 2^24 taps
  *   4                                the attenuation or beta
- *   6                                a count of taps
+ *   5                                the bandwidth bt
+ *   6                                a count: taps, span, samples, channels or branch
  *   7                                an unknown window code
  *   8       the host program         the buffer's length
  *   9                                max_taps is below the number of taps needed
  *   10      arithmetic               the sum that the taps are divided by is 0 or not finite
+ *   11                               an element that Q15 can't take
  */
 typedef struct {
     uint32_t number;
@@ -76,8 +79,8 @@ typedef struct {
     uint64_t expected; /* PEL_LENGTH: the length expected; PEL_CAP: the taps needed */
     uint64_t given;    /* PEL_LENGTH: the length given;    PEL_CAP: max_taps */
     uint64_t index;    /* PEL_ELEMENT: the element's index */
-    uint64_t count;    /* accepted: the number of taps or terms */
-    double value;      /* accepted: a divisor, a beta or a sum */
+    uint64_t count;    /* accepted: the number of taps, terms, samples or elements */
+    double value;      /* accepted: a divisor, a beta, a sum or a Q15 number */
 } pel_report;
 
 enum { PEL_NOTHING = 0, PEL_RANGE = 1, PEL_LENGTH = 2, PEL_CAP = 3, PEL_ELEMENT = 4 };
@@ -143,6 +146,88 @@ pel_report pel_spec_num_taps(double cutoff, double transition, double attenuatio
 pel_report pel_spec_lowpass(double cutoff, double transition, double attenuation, double rate, uint64_t max_taps);
 pel_report pel_spec_design(double cutoff, double transition, double attenuation, double rate, uint64_t max_taps,
                            uint8_t *out, size_t bytes);
+
+/* ---- Half-band filters ------------------------------------------------------------------------ */
+
+/* A half-band of bytes/8 taps with Kaiser's window: the low-pass at a quarter of the rate with every tap
+ * at an even distance from the middle set to 0, the right half mirrored from the left, and divided once
+ * more by the sum. Accepted: count is the number of taps, value the last divisor. The taps are mirror
+ * images to the bit, for every accepted ticket. Refused, in this order, with `out` as it came:
+ *   8   bytes isn't a multiple of 8, both figures in bytes
+ *   6   the taps aren't 3 over a multiple of 4, or are more than 2^24
+ *   4   a beta that isn't finite and not negative
+ *   10  a divisor that is 0 or not finite
+ * pel_halfband_len says how many taps a transition needs. Example: 5 taps are refused with 6. */
+pel_report pel_halfband(double beta, uint8_t *out, size_t bytes);
+
+/* The same judgement for a number of taps, without a buffer. */
+pel_report pel_halfband_new(double beta, uint64_t taps);
+
+/* ---- Pulses ----------------------------------------------------------------------------------- */
+
+/* The Gaussian pulse of GFSK and GMSK, samples * span + 1 taps, divided by their sum: `bt` is the
+ * bandwidth in symbol rates, `samples` those of a symbol, `span` the length in symbols. Accepted: count
+ * is the number of taps, value the divisor. Refused, in this order, with `out` as it came:
+ *   8   bytes isn't a multiple of 8, both figures in bytes
+ *   5   (0.2, 1, bt)
+ *   6   (2, 8, span)
+ *   6   (2, (2^24 - 1)/span rounded down, samples)
+ *   8   the buffer isn't that many taps: expected and given in taps
+ * Example: (0.5, 8, 4) has 33 taps. */
+pel_report pel_gaussian(double bt, uint64_t samples, uint64_t span, uint8_t *out, size_t bytes);
+
+/* The same judgement without a buffer. */
+pel_report pel_gaussian_new(double bt, uint64_t samples, uint64_t span);
+
+/* ---- Channelizer ------------------------------------------------------------------------------ */
+
+/* How many taps (count) Kaiser's estimate has for band edges in channel spacings, not made odd; and how
+ * many of them a branch takes, rounded up. Refused, in this order:
+ *   6   channels isn't a power of two from 4 to 256
+ *   2   a passband that isn't finite and positive
+ *   2   a stopband that isn't above the passband and at most 1.5
+ *   4   (20, 120, attenuation)
+ *   3   the estimate isn't finite or is above 2^24
+ * Example: 16 channels, 0.5, 1, 60 dB: 118 taps, 8 a branch. */
+pel_report pel_channelizer_taps(uint64_t channels, double passband, double stopband, double attenuation);
+pel_report pel_channelizer_taps_per_branch(uint64_t channels, double passband, double stopband, double attenuation);
+
+/* The prototype low-pass of channels * branch taps, its cutoff half way between the edges. Accepted:
+ * count is the number of taps, value the divisor. Refused, in this order, with `out` as it came:
+ *   8   bytes isn't a multiple of 8, both figures in bytes
+ *   6   channels isn't a power of two from 4 to 256
+ *   6   branch isn't 4 to 32
+ *   2, 2, 4  as pel_channelizer_taps
+ *   then as pel_lowpass at rate 1: 2 (a cutoff that underflows) can occur
+ *   8   the buffer isn't that many taps: expected and given in taps
+ * Example: 16 channels of 8 taps, 0.5, 1, 60 dB: 128 taps. */
+pel_report pel_channelizer_prototype(uint64_t channels, uint64_t branch, double passband, double stopband,
+                                     double attenuation, uint8_t *out, size_t bytes);
+
+/* The same judgement without a buffer. */
+pel_report pel_channelizer_lowpass(uint64_t channels, uint64_t branch, double passband, double stopband,
+                                   double attenuation);
+
+/* ---- Q15 -------------------------------------------------------------------------------------- */
+
+/* floor(32768 x + 0.5), held to -32768 and 32767; 0 for a NaN. So halves go up: 2^-16 gives 1, -2^-16
+ * gives 0. */
+int16_t pel_q15_from_f64(double x);
+
+/* One tap as a Q15 number (value). Refused: 11 with the index 0 and (-limit, limit, tap) where the size
+ * of the tap is above the limit, (1 - 1/32768) * 1.01, or it is a NaN. Example: 1 gives 32767, -1 gives
+ * -32768, 1.01 is refused. */
+pel_report pel_q15_tap(double tap);
+
+/* Converts taps, eight bytes each, to Q15 numbers, two bytes each, little-endian both. Accepted: count is
+ * how many. Refused, in this order:
+ *   8   source_bytes isn't a multiple of 8, both figures in bytes
+ *   8   bytes isn't a multiple of 2, both figures in bytes
+ *   8   the destination isn't for as many elements: expected and given in elements
+ *   11  the first element that isn't taken, as pel_q15_tap, with its index
+ * An 8 leaves `out` as it came. An 11 keeps the elements before its index and leaves the rest as it came.
+ * Source and destination must not overlap. */
+pel_report pel_to_q15(const uint8_t *source, size_t source_bytes, uint8_t *out, size_t bytes);
 
 #ifdef __cplusplus
 }

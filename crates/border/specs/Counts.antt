@@ -1,57 +1,82 @@
--- An accepted design has as many taps as it was asked for. Assumes nothing.
+-- An accepted design has as many taps as it was asked for, so a buffer of whole taps has room for them. Assumes nothing.
 use mathlib.Core.Path.{_≡_, refl, sym}
 use mathlib.Core.Bool.{Bool, true, false, cond}
-use Prim.Native.Nat.{ℕ}
+use Prim.Native.Nat.{ℕ, _/_, _%_}
 use native.Mathlib.Omega.{arith}
 use borrow.Author.Tests.{eqb-true}
 use lib.Dec.{eqb}
 use lib.Ieee.{Float}
 use Rattle.laws.specs.Binary64.{_⊘_}
 use Rattle.numbers.specs.Numbers.{positive}
-use Rattle.refusal.specs.declared.Refusal.{Refusal}
 use Rattle.kaiser.specs.declared.order.Order.{Order}
 use Rattle.kaiser.specs.declared.order.Order.the-variants as Order
 use Rattle.fir.specs.declared.window.Window.{Window}
 use Rattle.fir.specs.declared.window.Window.the-variants.{Kaiser}
-use Rattle.fir.specs.declared.lowpass.Lowpass.{Lowpass}
 use Rattle.fir.specs.declared.lowpass.Designed.{Designed}
-use Rattle.fir.specs.declared.lowpass.Designed.the-variants.{Ready, Refused}
+use Rattle.fir.specs.declared.lowpass.Designed.the-variants as Designed
 use Rattle.fir.specs.declared.spec.DesignSpec.{DesignSpec}
-use Rattle.fir.specs.Lowpass.{inside, countTaken, betaTaken, usable, divisorOf, lowpassOf}
+use Rattle.fir.specs.Outcome.{Outcome, Made, Turned}
+use Rattle.fir.specs.Lowpass.{inside, countTaken, betaTaken, usable, divisorOf, lowpassOf, outcomeOf}
 use Rattle.fir.specs.Spec.{designIn, specOrderOf, specDesignOf}
+use Rattle.halfband.specs.Halfband as Halfband
+use Rattle.pulses.specs.Gaussian as Gaussian
+use Rattle.pulses.specs.declared.gaussian_design.GaussianDesigned.{GaussianDesigned}
+use Rattle.pulses.specs.declared.gaussian_design.GaussianDesigned.the-variants as GaussianDesigned
+use Rattle.channelizer.specs.Channelizer as Channelizer
+use Rattle.border.specs.Sources.{Room}
 
-record Counted (n : ℕ) (design : Designed) : Type 0 where
-  count : (l : Lowpass) → design ≡ Ready l → l .n ≡ n
+-- an outcome of n taps, where it is a design
+abbrev pub Counted : ℕ → Outcome → Type 0
+Counted n (Made m sum tap) = m ≡ n
+Counted n (Turned why) = Unit {0}
 
-made : {n : ℕ} {l : Lowpass} → l .n ≡ n → Counted n (Ready l)
-made e = record { count = λ k h. cc }
+pub room : (len : ℕ) → len % 8 ≡ 0 → (o : Outcome) → Counted (len / 8) o → Room len o
+room len whole (Made n sum tap) e = omega arith
+room len whole (Turned why) e = tt
 
-none : {n : ℕ} {why : Refusal} → Counted n (Refused why)
-none = record { count = λ k h. absurd (let z : _≡_ {A = ℕ} 0 1 = cc in omega arith) }
+-- one of two answers d, by a test
+module _ {D : Type 0} (of : D → Outcome) (n : ℕ) (x y : D) where
+  either-way : (b : Bool) → Counted n (of x) → Counted n (of y) → Counted n (of (cond b x y))
+  either-way true p q = p
+  either-way false p q = q
 
-either-way : {n : ℕ} (b : Bool) {x y : Designed} → Counted n x → Counted n y → Counted n (cond b x y)
-either-way true p q = p
-either-way false p q = q
+  where-equal : (a c : ℕ) → (a ≡ c → Counted n (of x)) → Counted n (of y) → Counted n (of (cond (eqb a c) x y))
+  where-equal a c p q = go (eqb a c) (eqb-true a c)
+    where
+      go : (b : Bool) → (b ≡ true → a ≡ c) → Counted n (of (cond b x y))
+      go true e = p (e refl)
+      go false e = q
 
--- ---- by a number of taps
-counted : (cutoff rate : Float) (w : Window) (n : ℕ) → Counted n (lowpassOf cutoff rate w n)
+-- ---- the low-pass, by a number of taps
+pub lowpass-count : (cutoff rate : Float) (w : Window) (n : ℕ) → Counted n (outcomeOf (lowpassOf cutoff rate w n))
 unfolding lowpassOf
-counted cutoff rate w n =
+lowpass-count cutoff rate w n =
     let fc = cutoff ⊘ rate in
-    either-way (positive rate) (either-way (inside fc) (either-way (countTaken n) (either-way (betaTaken w) (either-way (usable (divisorOf fc w n)) (made refl) none) none) none) none) none
-
-pub ready-count : (cutoff rate : Float) (w : Window) (n : ℕ) (l : Lowpass) → lowpassOf cutoff rate w n ≡ Ready l → l .n ≡ n
-ready-count cutoff rate w n = counted cutoff rate w n .count
+    either-way outcomeOf n _ _ (positive rate) (either-way outcomeOf n _ _ (inside fc) (either-way outcomeOf n _ _ (countTaken n) (either-way outcomeOf n _ _ (betaTaken w) (either-way outcomeOf n _ _ (usable (divisorOf fc w n)) refl tt) tt) tt) tt) tt
 
 -- ---- by a specification, for a buffer of len elements
-in-order : (spec : DesignSpec) (rate : Float) (len : ℕ) (order : Order) → Counted len (designIn spec rate len order)
-in-order spec rate len (Order.Taps n beta) = where-equal (eqb n len) (λ e. rw (sym (eqb-true n len e)) (counted (spec .cutoff) rate (Kaiser beta) n)) none
-  where
-    where-equal : (b : Bool) {x y : Designed} → (b ≡ true → Counted len x) → Counted len y → Counted len (cond b x y)
-    where-equal true p q = p refl
-    where-equal false p q = q
-in-order spec rate len (Order.Refused why) = none
+in-order : (spec : DesignSpec) (rate : Float) (len : ℕ) (order : Order) → Counted len (outcomeOf (designIn spec rate len order))
+in-order spec rate len (Order.Taps n beta) = where-equal outcomeOf len _ _ n len (λ e. rw (sym e) (lowpass-count (spec .cutoff) rate (Kaiser beta) n)) tt
+in-order spec rate len (Order.Refused why) = tt
 
-pub spec-count : (spec : DesignSpec) (rate : Float) (max len : ℕ) (l : Lowpass) → specDesignOf spec rate max len ≡ Ready l → l .n ≡ len
+pub spec-count : (spec : DesignSpec) (rate : Float) (max len : ℕ) → Counted len (outcomeOf (specDesignOf spec rate max len))
 unfolding specDesignOf
-spec-count spec rate max len = in-order spec rate len (specOrderOf spec rate max) .count
+spec-count spec rate max len = in-order spec rate len (specOrderOf spec rate max)
+
+-- ---- the half-band
+in-halfband : (n : ℕ) (d : Designed) → Counted n (Halfband.outcomeOf (Halfband.halfbandIn n d))
+in-halfband n (Designed.Ready l) = either-way Halfband.outcomeOf n _ _ (usable (Halfband.divisorOf l n)) refl tt
+in-halfband n (Designed.Refused why) = tt
+
+pub halfband-count : (beta : Float) (n : ℕ) → Counted n (Halfband.outcomeOf (Halfband.halfbandOf beta n))
+unfolding Halfband.halfbandOf
+halfband-count beta n = either-way Halfband.outcomeOf n _ _ (Halfband.lengthTaken n) (in-halfband n (Halfband.quarterOf beta n)) tt
+
+-- ---- the Gaussian and the channelizer's prototype, for a buffer of len elements
+pub gaussian-count : (d : GaussianDesigned) (len : ℕ) → Counted len (Gaussian.outcomeOf (Gaussian.fittedOf d len))
+gaussian-count (GaussianDesigned.Ready g) len = where-equal Gaussian.outcomeOf len _ _ (g .n) len (λ e. e) tt
+gaussian-count (GaussianDesigned.Refused why) len = tt
+
+pub channelizer-count : (d : Designed) (len : ℕ) → Counted len (outcomeOf (Channelizer.fittedOf d len))
+channelizer-count (Designed.Ready l) len = where-equal outcomeOf len _ _ (l .n) len (λ e. e) tt
+channelizer-count (Designed.Refused why) len = tt

@@ -1,51 +1,60 @@
--- What the answer and the buffer are, from the outcome of a design. Assumes nothing.
-use mathlib.Core.Path.{_≡_, sym, ap, _∙_}
+-- What the answer and the buffer are, from what comes of a ticket. Assumes nothing.
+use mathlib.Core.Path.{_≡_, sym, ap, _∙_, subst}
 use mathlib.Core.List.{List}
-use Prim.Native.Nat.{ℕ, _-_, _/_, _%_}
-use native.Mathlib.Omega.{arith}
+use Prim.Native.Nat.{ℕ, _-_, _%_}
 use borrow.Author.Tests.{eq-eqb, ne-eqb}
+use lib.Ieee.{Float}
 use Rattle.laws.specs.Chunks.{chunks}
+use Rattle.packed.specs.Bytes.{floatBytes}
 use Rattle.refusal.specs.declared.Refusal.{Refusal}
 use Rattle.refusal.specs.declared.Refusal.the-variants.{Length}
 use Rattle.refusal.specs.declared.Report.{Report}
 use Rattle.refusal.specs.Report.{reportOf, acceptedOf}
-use lib.Ieee.{Float}
-use Rattle.fir.specs.declared.lowpass.Lowpass.{Lowpass}
-use Rattle.fir.specs.declared.lowpass.Designed.{Designed}
-use Rattle.fir.specs.declared.lowpass.Designed.the-variants.{Ready, Refused}
-use Rattle.fir.specs.declared.lowpass.Prepared.{Prepared}
-use Rattle.fir.specs.Windows.{normOf}
-use Rattle.fir.specs.Lowpass.{tapOf}
+use Rattle.fir.specs.Outcome.{Outcome, Made, Turned}
+use Rattle.fir.specs.Lowpass as Lowpass
 use Rattle.fir.specs.Kept.{Prepares}
-use Rattle.border.specs.Reports.{designReport}
-use Rattle.border.specs.Taps.{tapBytes, wholeTaps, written, Writes, Fits}
+use Rattle.fir.specs.declared.lowpass.Designed.{Designed}
+use Rattle.fir.specs.declared.lowpass.Prepared.{Prepared}
+use Rattle.halfband.specs.Halfband as Halfband
+use Rattle.halfband.specs.declared.HalfbandDesigned.{HalfbandDesigned}
+use Rattle.halfband.specs.declared.HalfbandPrepared.{HalfbandPrepared}
+use Rattle.pulses.specs.Gaussian as Gaussian
+use Rattle.pulses.specs.declared.gaussian_design.GaussianDesigned.{GaussianDesigned}
+use Rattle.border.specs.Reports.{outcomeReport}
+use Rattle.border.specs.Taps.{wholeTaps, written, Writes}
+use Rattle.border.specs.Sources.{Room, FitsLowpass, FitsHalfband, FitsGaussian}
 
 -- ---- by the outcome alone
-module _ {design : Designed} {before : List ℕ} {r : Report} where
+module _ {o : Outcome} {before : List ℕ} {r : Report} where
   -- a refusal, told and with the buffer as it came
-  pub leaves : {why : Refusal} → design ≡ Refused why → r ≡ reportOf why → Writes design before r before
-  leaves e told = record { answer = told ∙ ap designReport (sym e); buffer = ap (λ (d : Designed). written d before) (sym e) }
+  pub leaves : {why : Refusal} → o ≡ Turned why → r ≡ reportOf why → Writes o before r before
+  leaves e told = record { answer = told ∙ ap outcomeReport (sym e); buffer = ap (λ (p : Outcome). written p before) (sym e) }
 
   -- a design, told and with all of its taps
-  pub fills : {l : Lowpass} {after : List ℕ} → design ≡ Ready l → r ≡ acceptedOf (l .n) (l .sum) → after ≡ chunks (l .n) (tapBytes l (normOf (l .window))) → Writes design before r after
-  unfolding tapOf
-  fills e told put = record { answer = told ∙ ap designReport (sym e); buffer = put ∙ ap (λ (d : Designed). written d before) (sym e) }
+  pub fills : {n : ℕ} {sum : Float} {tap : ℕ → Float} {after : List ℕ} → o ≡ Made n sum tap → r ≡ acceptedOf n sum → after ≡ chunks n (λ i. floatBytes (tap i)) → Writes o before r after
+  fills e told put = record { answer = told ∙ ap outcomeReport (sym e); buffer = put ∙ ap (λ (p : Outcome). written p before) (sym e) }
 
-  -- the same design by another name
-  pub writes-same : {other : Designed} {after : List ℕ} → design ≡ other → Writes design before r after → Writes other before r after
-  writes-same e h = record { answer = h .answer ∙ ap designReport e; buffer = h .buffer ∙ ap (λ (d : Designed). written d before) e }
+  -- the same outcome by another name
+  pub writes-same : {p : Outcome} {after : List ℕ} → o ≡ p → Writes o before r after → Writes p before r after
+  writes-same e h = record { answer = h .answer ∙ ap outcomeReport e; buffer = h .buffer ∙ ap (λ (p : Outcome). written p before) e }
 
 -- ---- by the length too, len bytes
-module _ (len : ℕ) (design : Designed) where
+module _ (len : ℕ) (o : Outcome) {before : List ℕ} {r : Report} where
   -- part of a tap is left over
-  pub leaves-part : {before : List ℕ} {r : Report} → (len % 8 ≡ 0 → ⊥) → r ≡ reportOf (Length (len - len % 8) len) → Writes (wholeTaps len design) before r before
+  pub leaves-part : (len % 8 ≡ 0 → ⊥) → r ≡ reportOf (Length (len - len % 8) len) → Writes (wholeTaps len o) before r before
   leaves-part e told = leaves (rw (ne-eqb (len % 8) 0 e)) told
 
-  module _ (whole : len % 8 ≡ 0) {p : Prepared} {raws : List Float} (prepared : Prepares design p raws) where
-    -- as many taps as the buffer has room for
-    pub fits : ((l : Lowpass) → design ≡ Ready l → l .n ≡ len / 8) → Fits p raws len
-    fits count = record { kept = prepared .kept; raws-kept = prepared .raws; room = λ l e. omega (arith, count l (sym (prepared .is) ∙ e)) }
+  -- whole taps, written by a design of this outcome
+  pub writes-whole : {p : Outcome} {after : List ℕ} → len % 8 ≡ 0 → p ≡ o → Writes p before r after → Writes (wholeTaps len o) before r after
+  writes-whole whole e h = writes-same (e ∙ sym (rw (eq-eqb (len % 8) 0 whole))) h
 
-    -- what is written by a design that was prepared
-    pub writes-whole : {before : List ℕ} {r : Report} {after : List ℕ} → Writes (p .designed) before r after → Writes (wholeTaps len design) before r after
-    writes-whole h = writes-same (prepared .is ∙ sym (rw (eq-eqb (len % 8) 0 whole))) h
+-- ---- what a writer needs, of a design that was prepared and has as many taps as the buffer has room for
+module _ (len : ℕ) {rs : List Float} where
+  pub fits-lowpass : {d : Designed} {p : Prepared} → Prepares d p rs → Room len (Lowpass.outcomeOf d) → FitsLowpass p rs len
+  fits-lowpass h m = record { normed = h .kept; raws = h .raws; room = subst (λ (z : Designed). Room len (Lowpass.outcomeOf z)) (sym (h .is)) m }
+
+  pub fits-halfband : {d : HalfbandDesigned} {p : HalfbandPrepared} → Halfband.Prepares d p rs → Room len (Halfband.outcomeOf d) → FitsHalfband p rs len
+  fits-halfband h m = record { normed = h .kept; raws = h .raws; room = subst (λ (z : HalfbandDesigned). Room len (Halfband.outcomeOf z)) (sym (h .is)) m }
+
+  pub fits-gaussian : {d r : GaussianDesigned} → Gaussian.Prepares d r rs → Room len (Gaussian.outcomeOf d) → FitsGaussian r rs len
+  fits-gaussian h m = record { raws = h .raws; room = subst (λ (z : GaussianDesigned). Room len (Gaussian.outcomeOf z)) (sym (h .is)) m }

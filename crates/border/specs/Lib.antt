@@ -1,7 +1,11 @@
 pub mod Codes
 pub mod Reports
 pub mod Taps
+pub mod Sources
 pub mod Lowpass
 pub mod Spec
+pub mod More
+pub mod Q15
+pub mod Q15Laws
 pub mod Counts
 pub mod Laws

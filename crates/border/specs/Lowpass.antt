@@ -4,7 +4,8 @@ use lib.Ieee.{Float}
 use Rattle.refusal.specs.declared.Refusal.the-variants.{Plain}
 use Rattle.fir.specs.declared.lowpass.Designed.{Designed}
 use Rattle.fir.specs.declared.lowpass.Designed.the-variants.{Refused}
-use Rattle.fir.specs.Lowpass.{lowpassOf}
+use Rattle.fir.specs.Outcome.{Outcome, Turned}
+use Rattle.fir.specs.Lowpass.{lowpassOf, outcomeOf}
 use Rattle.border.specs.declared.codes.Coded.{Coded}
 use Rattle.border.specs.declared.codes.Coded.the-variants.{Known, Unknown}
 use Rattle.border.specs.Taps.{wholeTaps}
@@ -14,6 +15,6 @@ lowpassCoded cutoff rate (Known w) n = lowpassOf cutoff rate w n
 lowpassCoded cutoff rate Unknown n = Refused (Plain 7)
 
 -- eight bytes a tap
-abbrev pub lowpassBytes : Float → Float → Coded → ℕ → Designed
-lowpassBytes cutoff rate (Known w) len = wholeTaps len (lowpassOf cutoff rate w (len / 8))
-lowpassBytes cutoff rate Unknown len = Refused (Plain 7)
+abbrev pub lowpassBytes : Float → Float → Coded → ℕ → Outcome
+lowpassBytes cutoff rate (Known w) len = wholeTaps len (outcomeOf (lowpassOf cutoff rate w (len / 8)))
+lowpassBytes cutoff rate Unknown len = Turned (Plain 7)

@@ -1,8 +1,9 @@
 -- The low-pass by its specification, for a buffer of bytes. Definitions only.
 use Prim.Native.Nat.{ℕ, _/_}
 use lib.Ieee.{Float}
-use Rattle.fir.specs.declared.lowpass.Designed.{Designed}
 use Rattle.fir.specs.declared.spec.DesignSpec.{DesignSpec}
+use Rattle.fir.specs.Outcome.{Outcome}
+use Rattle.fir.specs.Lowpass.{outcomeOf}
 use Rattle.fir.specs.Spec.{specDesignOf}
 use Rattle.border.specs.Taps.{wholeTaps}
 
@@ -10,5 +11,5 @@ abbrev pub specOf : Float → Float → Float → DesignSpec
 specOf cutoff transition attenuation = record { cutoff = cutoff; transition = transition; attenuation = attenuation }
 
 -- eight bytes a tap
-abbrev pub specBytes : DesignSpec → Float → ℕ → ℕ → Designed
-specBytes spec rate max len = wholeTaps len (specDesignOf spec rate max (len / 8))
+abbrev pub specBytes : DesignSpec → Float → ℕ → ℕ → Outcome
+specBytes spec rate max len = wholeTaps len (outcomeOf (specDesignOf spec rate max (len / 8)))

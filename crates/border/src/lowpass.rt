@@ -2,15 +2,16 @@
 use super::codes::Coded;
 use super::codes::window_of;
 use super::taps::KEPT;
-use super::taps::write_design;
-use super::told::told_design;
+use super::taps::write_lowpass;
+use super::told::told_lowpass;
 use fir::lowpass::Lowpass;
 use refusal::Refusal;
 use refusal::Report;
 ghost use mathlib.Core.Path.{_≡_};
 ghost use lib.ListN.{length};
 ghost use Rattle.border.specs.Codes.{windowOf};
-ghost use Rattle.border.specs.Reports.{designReport};
+ghost use Rattle.fir.specs.Lowpass.{outcomeOf};
+ghost use Rattle.border.specs.Reports.{outcomeReport};
 ghost use Rattle.border.specs.Taps.{Writes};
 ghost use Rattle.border.specs.Lowpass.{lowpassCoded, lowpassBytes};
 
@@ -24,11 +25,11 @@ pub extern "C" fn pel_lowpass_new(
     beta: f64,
     taps: u64,
 ) -> Report
-    ensures { λ r. ⌜ r ≡ designReport (lowpassCoded cutoff rate (windowOf window beta) taps) ⌝ }
+    ensures { λ r. ⌜ r ≡ outcomeReport (outcomeOf (lowpassCoded cutoff rate (windowOf window beta) taps)) ⌝ }
 {
     let coded = window_of(window, beta);
     match coded {
-        Coded::Known(w) => told_design(Lowpass::new(cutoff, rate, w, taps)),
+        Coded::Known(w) => told_lowpass(Lowpass::new(cutoff, rate, w, taps)),
         Coded::Unknown => refusal::refused(Refusal::Plain(7)),
     }
 }
@@ -53,7 +54,7 @@ pub extern "C" fn pel_lowpass(
             }
             let mut raws = [0.0f64; KEPT];
             let p = fir::lowpass::prepare(cutoff, rate, w, len / 8, &mut raws);
-            write_design(p, &raws, &mut *out)
+            write_lowpass(p, &raws, &mut *out)
         }
         Coded::Unknown => refusal::refused(Refusal::Plain(7)),
     }

@@ -1,15 +1,16 @@
 // The low-pass by its specification, as exports: how many taps it needs, the design judged, and its taps in a buffer.
 use super::taps::KEPT;
-use super::taps::write_design;
-use super::told::told_design;
+use super::taps::write_lowpass;
 use super::told::told_length;
+use super::told::told_lowpass;
 use fir::spec::DesignSpec;
 use refusal::Refusal;
 use refusal::Report;
 ghost use mathlib.Core.Path.{_≡_};
 ghost use lib.ListN.{length};
 ghost use Rattle.fir.specs.Spec.{numTapsOf, specLowpassOf};
-ghost use Rattle.border.specs.Reports.{lengthReport, designReport};
+ghost use Rattle.fir.specs.Lowpass.{outcomeOf};
+ghost use Rattle.border.specs.Reports.{lengthReport, outcomeReport};
 ghost use Rattle.border.specs.Taps.{Writes};
 ghost use Rattle.border.specs.Spec.{specOf, specBytes};
 
@@ -42,14 +43,14 @@ pub extern "C" fn pel_spec_lowpass(
     rate: f64,
     cap: u64,
 ) -> Report
-    ensures { λ r. ⌜ r ≡ designReport (specLowpassOf (specOf cutoff transition attenuation) rate cap) ⌝ }
+    ensures { λ r. ⌜ r ≡ outcomeReport (outcomeOf (specLowpassOf (specOf cutoff transition attenuation) rate cap)) ⌝ }
 {
     let spec = DesignSpec {
         cutoff: cutoff,
         transition: transition,
         attenuation: attenuation,
     };
-    told_design(spec.lowpass(rate, cap))
+    told_lowpass(spec.lowpass(rate, cap))
 }
 
 // Fills the buffer with the taps of the design, eight bytes each, the lowest first; answers as pel_spec_lowpass. Refused, in this order: 8 a length that isn't a multiple of 8, with the length to the last whole tap and the length, in bytes; as pel_spec_num_taps; 8 a buffer for another number of taps, with both numbers of taps; as pel_lowpass_new. A refusal leaves the buffer as it came. Example: (1000, 100, 60, 8000, 293) needs 2344 bytes.
@@ -75,5 +76,5 @@ pub extern "C" fn pel_spec_design(
     };
     let mut raws = [0.0f64; KEPT];
     let p = fir::spec::spec_prepare(spec, rate, cap, len / 8, &mut raws);
-    write_design(p, &raws, &mut *out)
+    write_lowpass(p, &raws, &mut *out)
 }

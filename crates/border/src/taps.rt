@@ -1,41 +1,94 @@
-// A design's taps as the bytes of a buffer: one loop for every export that writes taps.
+// A design's taps as the bytes of a buffer: one loop for every kind of design.
 use fir::lowpass::Designed;
 use fir::lowpass::Lowpass;
 use fir::lowpass::Prepared;
+use halfband::HalfbandDesign;
+use halfband::HalfbandDesigned;
+use halfband::HalfbandPrepared;
+use pulses::gaussian_design::Gaussian;
+use pulses::gaussian_design::GaussianDesigned;
 use refusal::Report;
 ghost use mathlib.Core.Path.{_≡_};
 ghost use Prim.Native.Nat.{_/_, _%_};
 ghost use lib.ListN.{length};
 ghost use Rattle.laws.specs.Chunks.{chunks};
-ghost use Rattle.fir.specs.Kept.{Keeps};
-ghost use Rattle.border.specs.Taps.{tapBytes, Fits, Writes};
+ghost use Rattle.packed.specs.Bytes.{floatBytes};
+ghost use Rattle.border.specs.Taps.{Writes};
+ghost use Rattle.border.specs.Sources.{tapAt, KeptFor, ofLowpass, ofHalfband, ofGaussian, FitsLowpass, FitsHalfband, FitsGaussian};
 
 // How many raw taps an export keeps while it designs, so that each is worked out once: 8 kilobytes.
 pub(crate) const KEPT: usize = 1024;
 
+// A design of any kind, with the series at its beta where it has one.
+pub enum Source {
+    Lowpass(Lowpass, f64),
+    Halfband(HalfbandDesign, f64),
+    Gaussian(Gaussian),
+}
+
+// Tap i, from a list that keeps the first raw taps.
+fn tap_at(source: Source, raws: &[f64], i: u64) -> f64
+    ensures { λ r. ⌜ (KeptFor source (now (raws .entry)) → r ≡ tapAt source i) ⌝ }
+{
+    match source {
+        Source::Lowpass(lp, i0) => fir::lowpass::kept_tap(lp, i0, raws, i),
+        Source::Halfband(d, i0) => halfband::kept_tap(d, i0, raws, i),
+        Source::Gaussian(g) => pulses::gaussian_design::kept_tap(g, raws, i),
+    }
+}
+
 // Fills the buffer: the eight bytes of tap i at 8 i. There is no heap, so each tap goes straight to its place.
-fn put_taps(lp: Lowpass, i0: f64, raws: &[f64], out: &mut [u8])
-    requires { ⌜ length (now out) % 8 ≡ 0 ⌝ ∗ ⌜ Keeps lp i0 (now raws) ⌝ }
-    ensures { λ _. ⌜ now (out .exit) ≡ chunks (length (now (out .entry)) / 8) (tapBytes lp i0) ⌝ }
+fn put_taps(source: Source, raws: &[f64], out: &mut [u8])
+    requires { ⌜ length (now out) % 8 ≡ 0 ⌝ ∗ ⌜ KeptFor source (now raws) ⌝ }
+    ensures { λ _. ⌜ now (out .exit) ≡ chunks (length (now (out .entry)) / 8) (λ i. floatBytes (tapAt source i)) ⌝ }
 {
     let n = out.len() / 8;
     for i in 0..n {
-        let x = fir::lowpass::kept_tap(lp, i0, raws, i as u64);
+        let x = tap_at(source, raws, i as u64);
         packed::put_f64(&mut *out, 8 * i, x);
     }
 }
 
-// Writes the taps of a design that the buffer fits, and tells their number and their divisor; tells a refusal, and leaves the buffer.
-pub(crate) fn write_design(p: Prepared, raws: &[f64], out: &mut [u8]) -> Report
-    requires { ⌜ Fits p (now raws) (length (now out)) ⌝ }
-    ensures { λ r. ⌜ Writes (p .designed) (now (out .entry)) r (now (out .exit)) ⌝ }
+// Writes the taps of a low-pass that the buffer fits, and tells their number and their divisor; tells a refusal, and leaves the buffer.
+pub(crate) fn write_lowpass(p: Prepared, raws: &[f64], out: &mut [u8]) -> Report
+    requires { ⌜ FitsLowpass p (now raws) (length (now out)) ⌝ }
+    ensures { λ r. ⌜ Writes (ofLowpass (p .designed)) (now (out .entry)) r (now (out .exit)) ⌝ }
 {
     let designed = p.designed;
     match designed {
         Designed::Ready(lp) => {
-            put_taps(lp, p.i0, raws, &mut *out);
+            put_taps(Source::Lowpass(lp, p.i0), raws, &mut *out);
             refusal::accepted(lp.n, lp.sum)
         }
         Designed::Refused(why) => refusal::refused(why),
+    }
+}
+
+// The same of a half-band.
+pub(crate) fn write_halfband(p: HalfbandPrepared, raws: &[f64], out: &mut [u8]) -> Report
+    requires { ⌜ FitsHalfband p (now raws) (length (now out)) ⌝ }
+    ensures { λ r. ⌜ Writes (ofHalfband (p .designed)) (now (out .entry)) r (now (out .exit)) ⌝ }
+{
+    let designed = p.designed;
+    match designed {
+        HalfbandDesigned::Ready(d) => {
+            put_taps(Source::Halfband(d, p.i0), raws, &mut *out);
+            refusal::accepted(d.n, d.sum)
+        }
+        HalfbandDesigned::Refused(why) => refusal::refused(why),
+    }
+}
+
+// The same of a Gaussian.
+pub(crate) fn write_gaussian(designed: GaussianDesigned, raws: &[f64], out: &mut [u8]) -> Report
+    requires { ⌜ FitsGaussian designed (now raws) (length (now out)) ⌝ }
+    ensures { λ r. ⌜ Writes (ofGaussian designed) (now (out .entry)) r (now (out .exit)) ⌝ }
+{
+    match designed {
+        GaussianDesigned::Ready(g) => {
+            put_taps(Source::Gaussian(g), raws, &mut *out);
+            refusal::accepted(g.n, g.sum)
+        }
+        GaussianDesigned::Refused(why) => refusal::refused(why),
     }
 }

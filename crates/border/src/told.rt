@@ -3,7 +3,8 @@ use fir::lowpass::Designed;
 use kaiser::order::Length;
 use refusal::Report;
 ghost use mathlib.Core.Path.{_≡_};
-ghost use Rattle.border.specs.Reports.{lengthReport, designReport};
+ghost use Rattle.border.specs.Reports.{lengthReport, outcomeReport};
+ghost use Rattle.border.specs.Sources.{ofLowpass};
 
 // A number of taps, or why there is none.
 pub(crate) fn told_length(length: Length) -> Report
@@ -15,9 +16,9 @@ pub(crate) fn told_length(length: Length) -> Report
     }
 }
 
-// A design's number of taps and its divisor, or why it is none.
-pub(crate) fn told_design(designed: Designed) -> Report
-    ensures { λ r. ⌜ r ≡ designReport designed ⌝ }
+// A low-pass's number of taps and its divisor, or why it is none.
+pub(crate) fn told_lowpass(designed: Designed) -> Report
+    ensures { λ r. ⌜ r ≡ outcomeReport (ofLowpass designed) ⌝ }
 {
     match designed {
         Designed::Ready(lp) => refusal::accepted(lp.n, lp.sum),

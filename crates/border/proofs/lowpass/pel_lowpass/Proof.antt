@@ -4,23 +4,23 @@ use Prim.Native.Nat.{ℕ, _/_}
 use borrow.Author.Needs.{needs}
 use lib.ListN.{length}
 use Rattle.fir.specs.declared.window.Window.{Window}
-use Rattle.fir.specs.declared.lowpass.Designed.{Designed}
-use Rattle.fir.specs.Lowpass.{lowpassOf}
+use Rattle.fir.specs.Outcome.{Outcome}
+use Rattle.fir.specs.Lowpass.{lowpassOf, outcomeOf}
 use Rattle.border.specs.Lowpass.{lowpassBytes}
-use Rattle.border.specs.Counts.{ready-count}
-use Rattle.border.specs.Laws.{leaves, writes-same, leaves-part, fits, writes-whole}
+use Rattle.border.specs.Counts.{lowpass-count, room}
+use Rattle.border.specs.Laws.{leaves, writes-same, leaves-part, fits-lowpass, writes-whole}
 use Rattle.border.specs.declared.codes.Coded.{Coded}
 use Rattle.border.proofs.lowpass.pel_lowpass.Statement.{statement}
 use Rattle.border.proofs.lowpass.pel_lowpass.Tie as tie
 
--- the buffer's length, the design for it by a window, and by what the code stands for
+-- the buffer's length, what comes of the ticket for it by a window, and by what the code stands for
 abbrev len : tie.Start → ℕ
 len c = length (c .args .out .now)
 
-abbrev design : tie.Start → Window → Designed
-design c w = lowpassOf (c .args .cutoff) (c .args .rate) w (len c / 8)
+abbrev outcome : tie.Start → Window → Outcome
+outcome c w = outcomeOf (lowpassOf (c .args .cutoff) (c .args .rate) w (len c / 8))
 
-abbrev by-code : tie.Start → Coded → Designed
+abbrev by-code : tie.Start → Coded → Outcome
 by-code c w = lowpassBytes (c .args .cutoff) (c .args .rate) w (len c)
 
 window-of-requires : tie.Need-window-of-requires
@@ -40,7 +40,7 @@ returns c =
     let k = c .before .before .before in
     let start = k .before .before .before .before in
     let known = ap (by-code start) (sym (k .coded .given .1) ∙ k .before .before .window-of .ensures) in
-    writes-same known (leaves-part (len start) (design start (k .coded .given .0 .0)) (c .before .if1 .taken) (c .refused .ensures))
+    writes-same known (leaves-part (len start) (outcome start (k .coded .given .0 .0)) (c .before .if1 .taken) (c .refused .ensures))
 
 slice-aggregate-prepare : tie.Need-slice-aggregate-prepare
 slice-aggregate-prepare c = search needs
@@ -48,16 +48,16 @@ slice-aggregate-prepare c = search needs
 prepare-requires : tie.Need-prepare-requires
 prepare-requires c κs = search needs
 
-slice-aggregate-write-design : tie.Need-slice-aggregate-write-design
-slice-aggregate-write-design c = search needs
+slice-aggregate-write-lowpass : tie.Need-slice-aggregate-write-lowpass
+slice-aggregate-write-lowpass c = search needs
 
-write-design-requires : tie.Need-write-design-requires
-write-design-requires c κs =
+write-lowpass-requires : tie.Need-write-lowpass-requires
+write-lowpass-requires c κs =
     let p = c .before .before .before in
     let k = p .before .before .before .before in
     let start = k .before .before .before .before in
     let w = k .coded .given .0 .0 in
-    fits (len start) (design start w) (p .before .before .if1 .left) (p .prepare .ensures) (ready-count (start .args .cutoff) (start .args .rate) w (len start / 8))
+    fits-lowpass (len start) (p .prepare .ensures) (room (len start) (p .before .before .if1 .left) (outcome start w) (lowpass-count (start .args .cutoff) (start .args .rate) w (len start / 8)))
 
 enum-told : tie.Need-enum-told
 enum-told c = search needs
@@ -74,7 +74,7 @@ returns-2 c =
     let k = p .before .before .before .before in
     let start = k .before .before .before .before in
     let known = ap (by-code start) (sym (k .coded .given .1) ∙ k .before .before .window-of .ensures) in
-    writes-same known (writes-whole (len start) (design start (k .coded .given .0 .0)) (p .before .before .if1 .left) (p .prepare .ensures) (c .before .before .write-design .ensures))
+    writes-same known (writes-whole (len start) (outcome start (k .coded .given .0 .0)) (p .before .before .if1 .left) (ap outcomeOf (p .prepare .ensures .is)) (c .before .before .write-lowpass .ensures))
 
 returns-3 : tie.Need-returns-3
 returns-3 c =
@@ -92,8 +92,8 @@ pel-lowpass-spec =
     returns
     slice-aggregate-prepare
     prepare-requires
-    slice-aggregate-write-design
-    write-design-requires
+    slice-aggregate-write-lowpass
+    write-lowpass-requires
     enum-told
     refused-requires-2
     same-length

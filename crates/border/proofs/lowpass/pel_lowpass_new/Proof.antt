@@ -1,8 +1,10 @@
 -- `border::lowpass::pel_lowpass_new` meets its contract, a code that is known and one that is not. Assumes nothing.
 use mathlib.Core.Path.{sym, ap, _∙_}
 use borrow.Author.Needs.{needs}
-use Rattle.border.specs.Reports.{designReport}
+use Rattle.fir.specs.Lowpass.{outcomeOf}
+use Rattle.border.specs.Reports.{outcomeReport}
 use Rattle.border.specs.Lowpass.{lowpassCoded}
+use Rattle.fir.specs.declared.lowpass.Designed.{Designed}
 use Rattle.border.specs.declared.codes.Coded.{Coded}
 use Rattle.border.proofs.lowpass.pel_lowpass_new.Statement.{statement}
 use Rattle.border.proofs.lowpass.pel_lowpass_new.Tie as tie
@@ -16,8 +18,8 @@ enum-known-coded c = search needs
 new-requires : tie.Need-new-requires
 new-requires c κs = search needs
 
-told-design-requires : tie.Need-told-design-requires
-told-design-requires c κs = search needs
+told-lowpass-requires : tie.Need-told-lowpass-requires
+told-lowpass-requires c κs = search needs
 
 enum-told : tie.Need-enum-told
 enum-told c = search needs
@@ -29,13 +31,13 @@ returns : tie.Need-returns
 returns c =
     let a = c .before .before .before .before .before .before .args in
     let known = sym (c .before .before .before .coded .given .1) ∙ c .before .before .before .before .before .window-of .ensures in
-    c .told-design .ensures ∙ ap designReport (c .before .new .ensures) ∙ ap (λ (w : Coded). designReport (lowpassCoded (a .cutoff) (a .rate) w (a .taps))) known
+    c .told-lowpass .ensures ∙ ap (λ (d : Designed). outcomeReport (outcomeOf d)) (c .before .new .ensures) ∙ ap (λ (w : Coded). outcomeReport (outcomeOf (lowpassCoded (a .cutoff) (a .rate) w (a .taps)))) known
 
 returns-2 : tie.Need-returns-2
 returns-2 c =
     let a = c .before .before .before .before .args in
     let unknown = sym (c .before .enum-told .given .1) ∙ c .before .before .before .window-of .ensures in
-    c .refused .ensures ∙ ap (λ (w : Coded). designReport (lowpassCoded (a .cutoff) (a .rate) w (a .taps))) unknown
+    c .refused .ensures ∙ ap (λ (w : Coded). outcomeReport (outcomeOf (lowpassCoded (a .cutoff) (a .rate) w (a .taps)))) unknown
 
 pub pel-lowpass-new-spec : {M : Type 1} → statement M
 pel-lowpass-new-spec =
@@ -44,7 +46,7 @@ pel-lowpass-new-spec =
     window-of-requires
     enum-known-coded
     new-requires
-    told-design-requires
+    told-lowpass-requires
     enum-told
     refused-requires
     returns

@@ -1,18 +1,20 @@
 -- `border::spec::pel_spec_lowpass` meets its contract. Assumes nothing.
 use mathlib.Core.Path.{ap, _∙_}
 use borrow.Author.Needs.{needs}
-use Rattle.border.specs.Reports.{designReport}
+use Rattle.fir.specs.Lowpass.{outcomeOf}
+use Rattle.fir.specs.declared.lowpass.Designed.{Designed}
+use Rattle.border.specs.Reports.{outcomeReport}
 use Rattle.border.proofs.spec.pel_spec_lowpass.Statement.{statement}
 use Rattle.border.proofs.spec.pel_spec_lowpass.Tie as tie
 
 lowpass-requires : tie.Need-lowpass-requires
 lowpass-requires c κs = search needs
 
-told-design-requires : tie.Need-told-design-requires
-told-design-requires c κs = search needs
+told-lowpass-requires : tie.Need-told-lowpass-requires
+told-lowpass-requires c κs = search needs
 
 returns : tie.Need-returns
-returns c = c .told-design .ensures ∙ ap designReport (c .before .lowpass .ensures)
+returns c = c .told-lowpass .ensures ∙ ap (λ (d : Designed). outcomeReport (outcomeOf d)) (c .before .lowpass .ensures)
 
 pub pel-spec-lowpass-spec : {M : Type 1} → statement M
-pel-spec-lowpass-spec = tie.close (tie.spec lowpass-requires told-design-requires returns)
+pel-spec-lowpass-spec = tie.close (tie.spec lowpass-requires told-lowpass-requires returns)

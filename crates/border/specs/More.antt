@@ -1,0 +1,18 @@
+-- The half-band, the Gaussian and the channelizer's prototype, each for a buffer of bytes, eight a tap. Definitions only.
+use Prim.Native.Nat.{ℕ, _/_}
+use lib.Ieee.{Float}
+use Rattle.fir.specs.Outcome.{Outcome}
+use Rattle.fir.specs.Lowpass as Lowpass
+use Rattle.halfband.specs.Halfband as Halfband
+use Rattle.pulses.specs.Gaussian as Gaussian
+use Rattle.channelizer.specs.Channelizer as Channelizer
+use Rattle.border.specs.Taps.{wholeTaps}
+
+abbrev pub halfbandBytes : Float → ℕ → Outcome
+halfbandBytes beta len = wholeTaps len (Halfband.outcomeOf (Halfband.halfbandOf beta (len / 8)))
+
+abbrev pub gaussianBytes : Float → ℕ → ℕ → ℕ → Outcome
+gaussianBytes bt sps span len = wholeTaps len (Gaussian.outcomeOf (Gaussian.fittedOf (Gaussian.gaussianOf bt sps span) (len / 8)))
+
+abbrev pub channelizerBytes : ℕ → ℕ → Float → Float → Float → ℕ → Outcome
+channelizerBytes channels branch passband stopband attenuation len = wholeTaps len (Lowpass.outcomeOf (Channelizer.fittedOf (Channelizer.channelizerLowpassOf channels branch passband stopband attenuation) (len / 8)))

@@ -1,0 +1,66 @@
+-- A design of any kind with what its taps need: the series at its beta, and the raw taps that were kept. Definitions only.
+use Prim.Native.Nat.{ℕ, _*_}
+use mathlib.Core.Path.{_≡_}
+use mathlib.Core.List.{List}
+use lib.Ieee.{Float}
+use Rattle.fir.specs.Outcome.{Outcome, Made, Turned}
+use Rattle.fir.specs.Windows.{normOf}
+use Rattle.fir.specs.Lowpass as Lowpass
+use Rattle.fir.specs.Kept.{Keeps, Normed}
+use Rattle.fir.specs.declared.lowpass.Lowpass.{Lowpass}
+use Rattle.fir.specs.declared.lowpass.Designed.{Designed}
+use Rattle.fir.specs.declared.lowpass.Designed.the-variants as Designed
+use Rattle.fir.specs.declared.lowpass.Prepared.{Prepared}
+use Rattle.halfband.specs.Halfband as Halfband
+use Rattle.halfband.specs.declared.HalfbandDesign.{HalfbandDesign}
+use Rattle.halfband.specs.declared.HalfbandDesigned.{HalfbandDesigned}
+use Rattle.halfband.specs.declared.HalfbandDesigned.the-variants as HalfbandDesigned
+use Rattle.halfband.specs.declared.HalfbandPrepared.{HalfbandPrepared}
+use Rattle.pulses.specs.Gaussian as Gaussian
+use Rattle.pulses.specs.declared.gaussian_design.Gaussian.{Gaussian}
+use Rattle.pulses.specs.declared.gaussian_design.GaussianDesigned.{GaussianDesigned}
+use Rattle.pulses.specs.declared.gaussian_design.GaussianDesigned.the-variants as GaussianDesigned
+use Rattle.border.specs.declared.taps.Source.{Source}
+use Rattle.border.specs.declared.taps.Source.the-variants as Source
+
+-- tap i
+abbrev pub tapAt : Source → ℕ → Float
+tapAt (Source.Lowpass l i0) i = Lowpass.tapWith l i0 i
+tapAt (Source.Halfband d i0) i = Halfband.tapWith d i0 i
+tapAt (Source.Gaussian g) i = Gaussian.tapOf g i
+
+-- a list keeps the first raw taps
+abbrev pub KeptFor : Source → List Float → Type 0
+KeptFor (Source.Lowpass l i0) rs = Keeps l i0 rs
+KeptFor (Source.Halfband d i0) rs = Keeps (d .lp) i0 rs
+KeptFor (Source.Gaussian g) rs = Gaussian.Keeps g rs
+
+-- what comes of a ticket, by kind
+abbrev pub ofLowpass : Designed → Outcome
+ofLowpass d = Lowpass.outcomeOf d
+
+abbrev pub ofHalfband : HalfbandDesigned → Outcome
+ofHalfband d = Halfband.outcomeOf d
+
+abbrev pub ofGaussian : GaussianDesigned → Outcome
+ofGaussian d = Gaussian.outcomeOf d
+
+-- what comes of a design that is as long as a buffer of len bytes
+abbrev pub Room : ℕ → Outcome → Type 0
+Room len (Made n sum tap) = len ≡ 8 * n
+Room len (Turned why) = Unit {0}
+
+-- ---- what a writer needs of a design, where it is one: the series at its beta, a list that keeps its first raw taps, and a buffer of len bytes for its taps
+pub record FitsLowpass (p : Prepared) (rs : List Float) (len : ℕ) : Type 0 where
+  pub normed : Normed p
+  pub raws : (l : Lowpass) → p .designed ≡ Designed.Ready l → Keeps l (p .i0) rs
+  pub room : Room len (ofLowpass (p .designed))
+
+pub record FitsHalfband (p : HalfbandPrepared) (rs : List Float) (len : ℕ) : Type 0 where
+  pub normed : (d : HalfbandDesign) → p .designed ≡ HalfbandDesigned.Ready d → p .i0 ≡ normOf (d .lp .window)
+  pub raws : (d : HalfbandDesign) → p .designed ≡ HalfbandDesigned.Ready d → Keeps (d .lp) (p .i0) rs
+  pub room : Room len (ofHalfband (p .designed))
+
+pub record FitsGaussian (d : GaussianDesigned) (rs : List Float) (len : ℕ) : Type 0 where
+  pub raws : (g : Gaussian) → d ≡ GaussianDesigned.Ready g → Gaussian.Keeps g rs
+  pub room : Room len (ofGaussian d)
