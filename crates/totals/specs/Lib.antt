@@ -1,3 +1,7 @@
-pub mod Lowpass
+pub mod Bounds
+pub mod Normalised
+pub mod Kinds
 pub mod Sound
 pub mod Written
+pub mod Mirror
+pub mod Met

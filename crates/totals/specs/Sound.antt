@@ -1,142 +1,245 @@
--- What a design is known by from outside: it is a low-pass's where the report's number is 0, and no refusal has the number 0. Assumes nothing.
-use mathlib.Core.Path.{_≡_, refl, sym, ap, _∙_, subst}
+-- What comes of an export's numbers, whatever they are: taps that are raw values divided by their sum, or a refusal whose number is not 0. Assumes nothing.
+use mathlib.Core.Path.{_≡_, refl}
 use mathlib.Core.Bool.{Bool, true, false, cond}
-use Prim.Native.Nat.{ℕ, _%_, _-_, _+_}
+use Prim.Native.Nat.{ℕ, _-_, _*_, _/_, _%_, _<_}
 use native.Mathlib.Omega.{arith}
-use lib.Dec.{eqb, ltb}
-use lib.Ieee.{Float, lt, toUnsigned}
+use lib.Dec.{T, lit≤, eqb, ltb}
+use lib.Ieee.{Float, binary64, lt, fits}
 use lib.Ieee.Scale.{finite}
-use Rattle.laws.specs.Binary64.{_⊗_, _⊖_, _⊘_, whole}
+use Rattle.laws.specs.Binary64.{_⊖_, _⊗_, _⊘_, whole, fraction}
 use Rattle.numbers.specs.Numbers.{positive}
-use Rattle.whole.specs.Whole.{absOf, ceilOf}
+use Rattle.whole.specs.Whole.{absOf}
 use Rattle.refusal.specs.Report.{reportOf}
 use Rattle.refusal.specs.declared.Refusal.{Refusal}
-use Rattle.refusal.specs.declared.Refusal.the-variants as R
-use Rattle.kaiser.specs.Kaiser.{orderOf, estimate, oddUp, betaOf}
+use Rattle.refusal.specs.declared.Refusal.the-variants as Refusal
+use Rattle.kaiser.specs.Kaiser.{betaOf, estimate, orderOf}
 use Rattle.kaiser.specs.declared.order.Order.{Order}
-use Rattle.kaiser.specs.declared.order.Order.the-variants as O
-use Rattle.fir.specs.Lowpass.{inside, countTaken, betaTaken, usable, divisorOf, lowpassOf}
-use Rattle.fir.specs.LowpassLaws.{ready-is}
+use Rattle.kaiser.specs.declared.order.Order.the-variants as Order
+use Rattle.fir.specs.Outcome.{Outcome, Made, Turned}
+use Rattle.fir.specs.Lowpass as Lowpass
 use Rattle.fir.specs.Spec.{cutoffTaken, cappedOf, specOrderOf, designIn, specDesignOf}
 use Rattle.fir.specs.declared.window.Window.{Window}
 use Rattle.fir.specs.declared.window.Window.the-variants.{Kaiser}
-use Rattle.fir.specs.declared.lowpass.Lowpass.{Lowpass}
 use Rattle.fir.specs.declared.lowpass.Designed.{Designed}
-use Rattle.fir.specs.declared.lowpass.Designed.the-variants.{Ready, Refused}
+use Rattle.fir.specs.declared.lowpass.Designed.the-variants as Designed
 use Rattle.fir.specs.declared.spec.DesignSpec.{DesignSpec}
-use Rattle.border.specs.Codes.{windowOf}
+use Rattle.halfband.specs.Halfband as Halfband
+use Rattle.halfband.specs.declared.HalfbandDesigned.{HalfbandDesigned}
+use Rattle.halfband.specs.declared.HalfbandDesigned.the-variants as HalfbandDesigned
+use Rattle.pulses.specs.Gaussian as Gaussian
+use Rattle.pulses.specs.declared.gaussian_design.GaussianDesigned.{GaussianDesigned}
+use Rattle.pulses.specs.declared.gaussian_design.GaussianDesigned.the-variants as GaussianDesigned
+use Rattle.channelizer.specs.Channelizer as Channelizer
+use Rattle.channelizer.specs.ChannelizerLaws.{prototypeOf}
+use Rattle.channelizer.specs.declared.Checked.{Checked}
+use Rattle.channelizer.specs.declared.Checked.the-variants as Checked
 use Rattle.border.specs.Lowpass.{lowpassBytes}
+use Rattle.border.specs.More.{halfbandBytes, gaussianBytes, channelizerBytes}
 use Rattle.border.specs.Spec.{specBytes}
 use Rattle.border.specs.Taps.{wholeTaps}
 use Rattle.border.specs.declared.codes.Coded.{Coded}
 use Rattle.border.specs.declared.codes.Coded.the-variants.{Known, Unknown}
+use Rattle.totals.specs.Normalised.{Normalised}
+use Rattle.totals.specs.Kinds.{lowpass-normalised, lowpass-tap-fits, halfband-normalised, halfband-tap-fits, gaussian-normalised, gaussian-tap-fits}
 
+-- ---- what is shown
 -- a refusal's number is not 0
-abbrev Numbered : Refusal → Type 0
+abbrev pub Numbered : Refusal → Type 0
 Numbered why = reportOf why .number ≡ 0 → ⊥
 
-pub record Origin (l : Lowpass) : Type 0 where
-  pub cutoff : Float
-  pub rate : Float
-  pub window : Window
-  pub design : lowpassOf cutoff rate window (l .n) ≡ Ready l
+-- of an accepted ticket the taps, each an f64; of another the refusal
+abbrev pub Sound : Outcome → Type 0
+Sound (Made n divisor tap) = Normalised n divisor tap × ((i : ℕ) → T (fits binary64 (tap i)))
+Sound (Turned why) = Numbered why
 
--- a design is that of a low-pass ticket, a refusal has a number
-abbrev pub Sound : Designed → Type 0
-Sound (Ready l) = Origin l
-Sound (Refused why) = Numbered why
+-- of a refused ticket alone
+abbrev Refuses : Outcome → Type 0
+Refuses (Made n divisor tap) = Unit {0}
+Refuses (Turned why) = Numbered why
 
-plain : (k : ℕ) → (k ≡ 0 → ⊥) → Numbered (R.Plain k)
+-- ---- one of two answers, by a test
+pub either-way : {D : Type 0} (P : D → Type 0) (b : Bool) (x y : D) → P x → P y → P (cond b x y)
+either-way P true x y p q = p
+either-way P false x y p q = q
+
+-- ---- the refusals
+plain-numbered : (k : ℕ) → 0 < k → Numbered (Refusal.Plain k)
 unfolding reportOf
-plain k h e = h e
+plain-numbered k h e = omega (arith, e)
 
-range : (k : ℕ) (lo hi got : Float) → (k ≡ 0 → ⊥) → Numbered (R.Range k lo hi got)
+range-numbered : (k : ℕ) (lo hi got : Float) → 0 < k → Numbered (Refusal.Range k lo hi got)
 unfolding reportOf
-range k lo hi got h e = h e
+range-numbered k lo hi got h e = omega (arith, e)
 
-length : (a b : ℕ) → Numbered (R.Length a b)
+length-numbered : (a b : ℕ) → Numbered (Refusal.Length a b)
 unfolding reportOf
-length a b e = omega (arith, e)
+length-numbered a b e = omega (arith, e)
 
-cap : (a b : ℕ) → Numbered (R.Cap a b)
+cap-numbered : (a b : ℕ) → Numbered (Refusal.Cap a b)
 unfolding reportOf
-cap a b e = omega (arith, e)
+cap-numbered a b e = omega (arith, e)
+
+-- a buffer of bytes that isn't whole taps is refused
+whole-sound : (len : ℕ) (o : Outcome) → Sound o → Sound (wholeTaps len o)
+whole-sound len o x = either-way Sound (eqb (len % 8) 0) o (Turned (Refusal.Length (len - len % 8) len)) x (length-numbered (len - len % 8) len)
 
 -- ---- the low-pass
-refused-sound : (cutoff rate : Float) (w : Window) (n : ℕ) (why : Refusal) → lowpassOf cutoff rate w n ≡ Refused why → Numbered why
-unfolding lowpassOf
-refused-sound cutoff rate w n why e = go (positive rate) (inside (cutoff ⊘ rate)) (countTaken n) (betaTaken w) (usable (divisorOf (cutoff ⊘ rate) w n)) e
-  where
-    of : (r : Refusal) → Numbered r → Refused r ≡ Refused why → Numbered why
-    of r h e = subst Numbered (cc) h
+module _ (cutoff rate : Float) (w : Window) (n : ℕ) where
+  lowpass-refuses : Refuses (Lowpass.outcomeOf (Lowpass.lowpassOf cutoff rate w n))
+  unfolding Lowpass.lowpassOf
+  lowpass-refuses =
+      let fc = cutoff ⊘ rate in
+      let way = either-way (λ (d : Designed). Refuses (Lowpass.outcomeOf d)) in
+      way (positive rate) _ _
+      (way (Lowpass.inside fc) _ _
+      (way (Lowpass.countTaken n) _ _
+      (way (Lowpass.betaTaken w) _ _
+      (way (Lowpass.usable (Lowpass.divisorOf fc w n)) _ _ tt (plain-numbered 10 (lit≤ tt)))
+      (plain-numbered 4 (lit≤ tt)))
+      (plain-numbered 6 (lit≤ tt)))
+      (range-numbered 2 (whole 0) (rate ⊘ whole 2) cutoff (lit≤ tt)))
+      (plain-numbered 1 (lit≤ tt))
 
-    go : (a b c d f : Bool)
-        → cond a (cond b (cond c (cond d (cond f (Ready (record { n = n; fc = cutoff ⊘ rate; window = w; sum = divisorOf (cutoff ⊘ rate) w n })) (Refused (R.Plain 10))) (Refused (R.Plain 4))) (Refused (R.Plain 6))) (Refused (R.Range 2 (whole 0) (rate ⊘ whole 2) cutoff))) (Refused (R.Plain 1)) ≡ Refused why
-        → Numbered why
-    go true true true true true e = absurd (let z : _≡_ {A = ℕ} 0 1 = cc in omega arith)
-    go true true true true false e = of (R.Plain 10) (plain 10 (λ h. omega arith)) e
-    go true true true false f e = of (R.Plain 4) (plain 4 (λ h. omega arith)) e
-    go true true false d f e = of (R.Plain 6) (plain 6 (λ h. omega arith)) e
-    go true false c d f e = of (R.Range 2 (whole 0) (rate ⊘ whole 2) cutoff) (range 2 (whole 0) (rate ⊘ whole 2) cutoff (λ h. omega arith)) e
-    go false b c d f e = of (R.Plain 1) (plain 1 (λ h. omega arith)) e
+  lowpass-sound : Sound (Lowpass.outcomeOf (Lowpass.lowpassOf cutoff rate w n))
+  lowpass-sound = go (Lowpass.lowpassOf cutoff rate w n) refl lowpass-refuses
+    where
+      go : (d : Designed) → Lowpass.lowpassOf cutoff rate w n ≡ d → Refuses (Lowpass.outcomeOf d) → Sound (Lowpass.outcomeOf d)
+      go (Designed.Ready l) e x = (lowpass-normalised cutoff rate w n l e, lowpass-tap-fits l)
+      go (Designed.Refused why) e x = x
 
-sound-of : (cutoff rate : Float) (w : Window) (n : ℕ) (d : Designed) → lowpassOf cutoff rate w n ≡ d → Sound d
-sound-of cutoff rate w n (Ready l) e =
-    let m : n ≡ l .n = sym (ap (λ (z : Lowpass). z .n) (ready-is cutoff rate w n l e .is)) in
-    record { cutoff = cutoff; rate = rate; window = w; design = subst (λ (z : ℕ). lowpassOf cutoff rate w z ≡ Ready l) m e }
-sound-of cutoff rate w n (Refused why) e = refused-sound cutoff rate w n why e
-
-lowpass-sound : (cutoff rate : Float) (w : Window) (n : ℕ) → Sound (lowpassOf cutoff rate w n)
-lowpass-sound cutoff rate w n = sound-of cutoff rate w n (lowpassOf cutoff rate w n) refl
-
-cond-sound : (b : Bool) (d e : Designed) → Sound d → Sound e → Sound (cond b d e)
-cond-sound true d e x y = x
-cond-sound false d e x y = y
-
-whole-sound : (len : ℕ) (d : Designed) → Sound d → Sound (wholeTaps len d)
-whole-sound len d x = cond-sound (eqb (len % 8) 0) d (Refused (R.Length (len - len % 8) len)) x (length (len - len % 8) len)
-
-coded : (cutoff rate : Float) (c : Coded) (len : ℕ) → Sound (lowpassBytes cutoff rate c len)
-coded cutoff rate (Known w) len = whole-sound len _ (lowpass-sound cutoff rate w _)
-coded cutoff rate Unknown len = plain 7 (λ h. omega arith)
-
-pub lowpass-bytes-sound : (cutoff rate : Float) (code : ℕ) (beta : Float) (len : ℕ) → Sound (lowpassBytes cutoff rate (windowOf code beta) len)
-lowpass-bytes-sound cutoff rate code beta len = coded cutoff rate (windowOf code beta) len
+pub lowpass-bytes-sound : (cutoff rate : Float) (c : Coded) (len : ℕ) → Sound (lowpassBytes cutoff rate c len)
+lowpass-bytes-sound cutoff rate (Known w) len = whole-sound len _ (lowpass-sound cutoff rate w (len / 8))
+lowpass-bytes-sound cutoff rate Unknown len = plain-numbered 7 (lit≤ tt)
 
 -- ---- the specification
 -- an order that is refused has a number
 abbrev Ordered : Order → Type 0
-Ordered (O.Taps n beta) = Unit {0}
-Ordered (O.Refused why) = Numbered why
-
-cond-ordered : (b : Bool) (o p : Order) → Ordered o → Ordered p → Ordered (cond b o p)
-cond-ordered true o p x y = x
-cond-ordered false o p x y = y
+Ordered (Order.Taps n beta) = Unit {0}
+Ordered (Order.Refused why) = Numbered why
 
 order-ordered : (ripple transition rate : Float) → Ordered (orderOf ripple transition rate)
 unfolding orderOf
-order-ordered ripple transition rate = cond-ordered (finite (absOf ripple)) _ _ (cond-ordered (lt (absOf ripple) (whole 8)) _ _ (plain 4 (λ h. omega arith)) (cond-ordered (positive (whole 2 ⊗ transition ⊘ rate)) _ _ (cond-ordered (lt (whole 16777216) (estimate (absOf ripple) (whole 2 ⊗ transition ⊘ rate))) _ _ (range 3 (whole 0) rate transition (λ h. omega arith)) tt) (plain 3 (λ h. omega arith)))) (plain 4 (λ h. omega arith))
+order-ordered ripple transition rate =
+    let a = absOf ripple in
+    let width = whole 2 ⊗ transition ⊘ rate in
+    either-way Ordered (finite a) _ _
+    (either-way Ordered (lt a (whole 8)) _ _
+    (plain-numbered 4 (lit≤ tt))
+    (either-way Ordered (positive width) _ _
+    (either-way Ordered (lt (whole 16777216) (estimate a width)) _ _ (range-numbered 3 (whole 0) rate transition (lit≤ tt)) tt)
+    (plain-numbered 3 (lit≤ tt))))
+    (plain-numbered 4 (lit≤ tt))
 
 capped-ordered : (o : Order) (m : ℕ) → Ordered o → Ordered (cappedOf o m)
-capped-ordered (O.Taps n beta) m x = cond-ordered (ltb m n) (O.Refused (R.Cap n m)) (O.Taps n beta) (cap n m) tt
-capped-ordered (O.Refused why) m x = x
+capped-ordered (Order.Taps n beta) m x = either-way Ordered (ltb m n) (Order.Refused (Refusal.Cap n m)) (Order.Taps n beta) (cap-numbered n m) tt
+capped-ordered (Order.Refused why) m x = x
 
 spec-ordered : (spec : DesignSpec) (rate : Float) (m : ℕ) → Ordered (specOrderOf spec rate m)
 unfolding specOrderOf
 spec-ordered spec rate m =
     let most = rate ⊘ whole 2 ⊖ spec .transition ⊘ whole 2 in
-    cond-ordered (positive rate) _ _
-    (cond-ordered (positive (spec .transition)) _ _
-    (cond-ordered (cutoffTaken (spec .cutoff) most) _ _
+    either-way Ordered (positive rate) _ _
+    (either-way Ordered (positive (spec .transition)) _ _
+    (either-way Ordered (cutoffTaken (spec .cutoff) most) _ _
     (capped-ordered (orderOf (spec .attenuation) (spec .transition) rate) m (order-ordered (spec .attenuation) (spec .transition) rate))
-    (range 2 (whole 0) most (spec .cutoff) (λ h. omega arith)))
-    (range 3 (whole 0) (rate ⊘ whole 2) (spec .transition) (λ h. omega arith)))
-    (plain 1 (λ h. omega arith))
+    (range-numbered 2 (whole 0) most (spec .cutoff) (lit≤ tt)))
+    (range-numbered 3 (whole 0) (rate ⊘ whole 2) (spec .transition) (lit≤ tt)))
+    (plain-numbered 1 (lit≤ tt))
 
-design-sound : (spec : DesignSpec) (rate : Float) (len : ℕ) (o : Order) → Ordered o → Sound (designIn spec rate len o)
-design-sound spec rate len (O.Taps n beta) x = cond-sound (eqb n len) (lowpassOf (spec .cutoff) rate (Kaiser beta) n) (Refused (R.Length n len)) (lowpass-sound (spec .cutoff) rate (Kaiser beta) n) (length n len)
-design-sound spec rate len (O.Refused why) x = x
+design-sound : (spec : DesignSpec) (rate : Float) (len : ℕ) (o : Order) → Ordered o → Sound (Lowpass.outcomeOf (designIn spec rate len o))
+design-sound spec rate len (Order.Taps n beta) x =
+    either-way (λ (d : Designed). Sound (Lowpass.outcomeOf d)) (eqb n len) (Lowpass.lowpassOf (spec .cutoff) rate (Kaiser beta) n) (Designed.Refused (Refusal.Length n len))
+    (lowpass-sound (spec .cutoff) rate (Kaiser beta) n)
+    (length-numbered n len)
+design-sound spec rate len (Order.Refused why) x = x
 
 pub spec-bytes-sound : (spec : DesignSpec) (rate : Float) (m len : ℕ) → Sound (specBytes spec rate m len)
 unfolding specDesignOf
-spec-bytes-sound spec rate m len = whole-sound len _ (design-sound spec rate _ (specOrderOf spec rate m) (spec-ordered spec rate m))
+spec-bytes-sound spec rate m len = whole-sound len _ (design-sound spec rate (len / 8) (specOrderOf spec rate m) (spec-ordered spec rate m))
+
+-- ---- the half-band
+module _ (beta : Float) (n : ℕ) where
+  in-halfband : (q : Designed) → Refuses (Lowpass.outcomeOf q) → Refuses (Halfband.outcomeOf (Halfband.halfbandIn n q))
+  in-halfband (Designed.Ready l) x = either-way (λ (d : HalfbandDesigned). Refuses (Halfband.outcomeOf d)) (Lowpass.usable (Halfband.divisorOf l n)) _ _ tt (plain-numbered 10 (lit≤ tt))
+  in-halfband (Designed.Refused why) x = x
+
+  halfband-refuses : Refuses (Halfband.outcomeOf (Halfband.halfbandOf beta n))
+  unfolding Halfband.halfbandOf
+  halfband-refuses =
+      either-way (λ (d : HalfbandDesigned). Refuses (Halfband.outcomeOf d)) (Halfband.lengthTaken n) _ _
+      (in-halfband (Halfband.quarterOf beta n) (lowpass-refuses (fraction 1 4) (whole 1) (Kaiser beta) n))
+      (plain-numbered 6 (lit≤ tt))
+
+  halfband-sound : Sound (Halfband.outcomeOf (Halfband.halfbandOf beta n))
+  halfband-sound = go (Halfband.halfbandOf beta n) refl halfband-refuses
+    where
+      go : (d : HalfbandDesigned) → Halfband.halfbandOf beta n ≡ d → Refuses (Halfband.outcomeOf d) → Sound (Halfband.outcomeOf d)
+      go (HalfbandDesigned.Ready d) e x = (halfband-normalised beta n d e, halfband-tap-fits d)
+      go (HalfbandDesigned.Refused why) e x = x
+
+pub halfband-bytes-sound : (beta : Float) (len : ℕ) → Sound (halfbandBytes beta len)
+halfband-bytes-sound beta len = whole-sound len _ (halfband-sound beta (len / 8))
+
+-- ---- the Gaussian
+module _ (bt : Float) (sps span : ℕ) where
+  gaussian-refuses : Refuses (Gaussian.outcomeOf (Gaussian.gaussianOf bt sps span))
+  unfolding Gaussian.gaussianOf
+  gaussian-refuses =
+      let most = 16777215 / span in
+      let way = either-way (λ (d : GaussianDesigned). Refuses (Gaussian.outcomeOf d)) in
+      way (Gaussian.btTaken bt) _ _
+      (way (Gaussian.spanTaken span) _ _
+      (way (Gaussian.samplesTaken sps most) _ _ tt (range-numbered 6 (whole 2) (whole most) (whole sps) (lit≤ tt)))
+      (range-numbered 6 (whole 2) (whole 8) (whole span) (lit≤ tt)))
+      (range-numbered 5 (fraction 2 10) (whole 1) bt (lit≤ tt))
+
+  gaussian-sound : Sound (Gaussian.outcomeOf (Gaussian.gaussianOf bt sps span))
+  gaussian-sound = go (Gaussian.gaussianOf bt sps span) refl gaussian-refuses
+    where
+      go : (d : GaussianDesigned) → Gaussian.gaussianOf bt sps span ≡ d → Refuses (Gaussian.outcomeOf d) → Sound (Gaussian.outcomeOf d)
+      go (GaussianDesigned.Ready g) e x = (gaussian-normalised bt sps span g e, gaussian-tap-fits g)
+      go (GaussianDesigned.Refused why) e x = x
+
+gaussian-fitted : (d : GaussianDesigned) (len : ℕ) → Sound (Gaussian.outcomeOf d) → Sound (Gaussian.outcomeOf (Gaussian.fittedOf d len))
+gaussian-fitted (GaussianDesigned.Ready g) len x = either-way (λ (d : GaussianDesigned). Sound (Gaussian.outcomeOf d)) (eqb (g .n) len) _ _ x (length-numbered (g .n) len)
+gaussian-fitted (GaussianDesigned.Refused why) len x = x
+
+pub gaussian-bytes-sound : (bt : Float) (sps span len : ℕ) → Sound (gaussianBytes bt sps span len)
+gaussian-bytes-sound bt sps span len = whole-sound len _ (gaussian-fitted (Gaussian.gaussianOf bt sps span) (len / 8) (gaussian-sound bt sps span))
+
+-- ---- the channelizer's prototype
+-- band edges that are refused have a number
+abbrev EdgesRefuse : Checked → Type 0
+EdgesRefuse Checked.Fine = Unit {0}
+EdgesRefuse (Checked.Refused why) = Numbered why
+
+edges-refuse : (passband stopband a : Float) → EdgesRefuse (Channelizer.edgesOf passband stopband a)
+unfolding Channelizer.edgesOf
+edges-refuse passband stopband a =
+    either-way EdgesRefuse (positive passband) _ _
+    (either-way EdgesRefuse (Channelizer.stopTaken passband stopband) _ _
+    (either-way EdgesRefuse (Channelizer.attenuationTaken a) _ _ tt (range-numbered 4 (whole 20) (whole 120) a (lit≤ tt)))
+    (plain-numbered 2 (lit≤ tt)))
+    (plain-numbered 2 (lit≤ tt))
+
+edges-sound : (c : Checked) (d : Designed) → EdgesRefuse c → Sound (Lowpass.outcomeOf d) → Sound (Lowpass.outcomeOf (Channelizer.lowpassIn c d))
+edges-sound Checked.Fine d x y = y
+edges-sound (Checked.Refused why) d x y = x
+
+channelizer-sound : (m l : ℕ) (passband stopband a : Float) → Sound (Lowpass.outcomeOf (Channelizer.channelizerLowpassOf m l passband stopband a))
+unfolding Channelizer.channelizerLowpassOf
+channelizer-sound m l passband stopband a =
+    let way = either-way (λ (d : Designed). Sound (Lowpass.outcomeOf d)) in
+    way (Channelizer.channelsTaken m) _ _
+    (way (Channelizer.branchTaken l) _ _
+    (edges-sound (Channelizer.edgesOf passband stopband a) (prototypeOf m l passband stopband a) (edges-refuse passband stopband a) (lowpass-sound _ (whole 1) (Kaiser (betaOf a)) (m * l)))
+    (plain-numbered 6 (lit≤ tt)))
+    (plain-numbered 6 (lit≤ tt))
+
+channelizer-fitted : (d : Designed) (len : ℕ) → Sound (Lowpass.outcomeOf d) → Sound (Lowpass.outcomeOf (Channelizer.fittedOf d len))
+channelizer-fitted (Designed.Ready l) len x = either-way (λ (d : Designed). Sound (Lowpass.outcomeOf d)) (eqb (l .n) len) _ _ x (length-numbered (l .n) len)
+channelizer-fitted (Designed.Refused why) len x = x
+
+pub channelizer-bytes-sound : (channels branch : ℕ) (passband stopband attenuation : Float) (len : ℕ) → Sound (channelizerBytes channels branch passband stopband attenuation len)
+channelizer-bytes-sound channels branch passband stopband attenuation len =
+    whole-sound len _ (channelizer-fitted (Channelizer.channelizerLowpassOf channels branch passband stopband attenuation) (len / 8) (channelizer-sound channels branch passband stopband attenuation))

@@ -1,55 +1,86 @@
--- The tap total of the taps that the exports write: read back from the bytes, over what the report says. Assumes nothing.
-use mathlib.Core.Path.{_≡_, refl, sym, ap, _∙_, subst}
-use mathlib.Core.Bool.{Bool, true, false, cond}
+-- Demand 3 of the taps that the exports write, read back from the bytes, for every ticket and every length of the buffer. Assumes nothing.
+use mathlib.Core.Path.{_≡_, sym, subst}
+use mathlib.Core.Bool.{Bool}
 use mathlib.Core.List.{List}
 use Prim.Native.Nat.{ℕ}
-use lib.Dec.{T, ltb}
+use lib.Dec.{T}
 use lib.ListN.{length}
-use lib.Ieee.{Float, binary64, fits}
-use lib.Ieee.Fits.{cond-fits, div-fits, ofInt-fits}
+use lib.Ieee.{Float}
 use lib.Ieee.Scale.{finite}
 use Rattle.laws.specs.Filled.{tabulate}
 use Rattle.laws.specs.SumError.{Each}
-use Rattle.packed.specs.Read.{floatsIn, floats-back}
-use Rattle.refusal.specs.Report.{reportOf, acceptedOf}
+use Rattle.packed.specs.Bytes.{floatsIn}
+use Rattle.packed.specs.Read.{floats-back}
+use Rattle.refusal.specs.Report.{acceptedOf}
 use Rattle.refusal.specs.declared.Report.{Report}
-use Rattle.fir.specs.Lowpass.{tapWith, tapOf}
-use Rattle.fir.specs.declared.lowpass.Lowpass.{Lowpass}
-use Rattle.fir.specs.declared.lowpass.Designed.{Designed}
-use Rattle.fir.specs.declared.lowpass.Designed.the-variants.{Ready, Refused}
+use Rattle.conversions.specs.Q15.{takes}
+use Rattle.fir.specs.Outcome.{Outcome, Made, Turned}
 use Rattle.fir.specs.declared.spec.DesignSpec.{DesignSpec}
 use Rattle.border.specs.Codes.{windowOf}
 use Rattle.border.specs.Lowpass.{lowpassBytes}
-use Rattle.border.specs.Reports.{designReport}
+use Rattle.border.specs.More.{halfbandBytes, gaussianBytes, channelizerBytes}
+use Rattle.border.specs.Reports.{outcomeReport}
 use Rattle.border.specs.Spec.{specBytes}
 use Rattle.border.specs.Taps.{Writes, written}
-use Rattle.totals.specs.Lowpass.{TapTotal, lowpass-total}
-use Rattle.totals.specs.Sound.{Sound, lowpass-bytes-sound, spec-bytes-sound}
+use Rattle.totals.specs.Bounds.{TapTotal, Q15Total, unsaturated}
+use Rattle.totals.specs.Normalised.{tap-total, q15-total}
+use Rattle.totals.specs.Sound.{Sound, lowpass-bytes-sound, spec-bytes-sound, halfband-bytes-sound, gaussian-bytes-sound, channelizer-bytes-sound}
 
-tap-fits : (l : Lowpass) (i : ℕ) → T (fits binary64 (tapOf l i))
-unfolding tapOf tapWith
-tap-fits l i = cond-fits binary64 (ltb 16777216 (l .n)) _ _ (ofInt-fits binary64 _) (cond-fits binary64 (ltb i (l .n)) _ _ (div-fits binary64 _ _) (ofInt-fits binary64 _))
+-- ---- the statement, of an export's report r and of its buffer afterwards
+-- "accepted": the report's number is 0, none of the refusals'
+abbrev pub Accepted : Report → Type 0
+Accepted r = r .number ≡ 0
 
--- The report says accepted and gives count and divisor; the count's taps are read from the bytes.
-abbrev Bounded : Report → List ℕ → Type 0
-Bounded r after = r .number ≡ 0 → T (finite (r .value)) → Each finite (floatsIn (r .count) after) → TapTotal (floatsIn (r .count) after)
+-- "the last divisor": the report's value
+abbrev pub divisorIn : Report → Float
+divisorIn r = r .value
 
-of-design : (d : Designed) (before : List ℕ) → Sound d → Bounded (designReport d) (written d before)
+-- "its taps, index 0 to n − 1": the f64s in the bytes, n being the report's count
+abbrev pub tapsIn : Report → List ℕ → List Float
+tapsIn r after = floatsIn (r .count) after
+
+pub record Totals (r : Report) (after : List ℕ) : Type 0 where
+  -- "the exact sum of the taps differs from 1 by at most n (1 + A)/2^52", where the ticket is accepted and the last divisor and all taps are finite
+  pub taps : Accepted r → T (finite (divisorIn r)) → Each finite (tapsIn r after) → TapTotal (tapsIn r after)
+  -- "the Q15 sum differs from 32768 by at most n (1/2 + (1 + A)/2^37)", where moreover "Q15 takes" every tap (the conversion doesn't answer 11) and no tap "saturates"
+  pub codes : Accepted r → T (finite (divisorIn r)) → Each finite (tapsIn r after) → Each takes (tapsIn r after) → Each unsaturated (tapsIn r after) → Q15Total (tapsIn r after)
+
+-- ---- of any outcome
+-- what holds of an outcome's report and buffer holds of what an export answers and leaves
+pub by-writes : (P : Report → List ℕ → Type 0) {o : Outcome} {before after : List ℕ} {r : Report} → Writes o before r after → P (outcomeReport o) (written o before) → P r after
+by-writes P {o} {before} {after} {r} w p = subst (λ (z : List ℕ). P r z) (sym (w .buffer)) (subst (λ (z : Report). P z (written o before)) (sym (w .answer)) p)
+
+sound-totals : (o : Outcome) (before : List ℕ) → Sound o → Totals (outcomeReport o) (written o before)
 unfolding acceptedOf
-of-design (Ready l) before s e t u =
-    let q : floatsIn (l .n) (written (Ready l) before) ≡ tabulate (l .n) (tapOf l) = floats-back (l .n) (tapOf l) (tap-fits l) in
-    subst TapTotal (sym q) (lowpass-total (s .cutoff) (s .rate) (s .window) (l .n) l (s .design) t (subst (λ (z : List Float). Each finite z) q u))
-of-design (Refused why) before s e t u = absurd (s e)
+sound-totals (Made n divisor tap) before (taps, fit) =
+    let back : floatsIn n (written (Made n divisor tap) before) ≡ tabulate n tap = floats-back n tap fit in
+    let in-taps : (b : Float → Bool) → Each b (floatsIn n (written (Made n divisor tap) before)) → Each b (tabulate n tap) = λ b u. subst (λ (z : List Float). Each b z) back u in
+    record {
+      taps = λ e t u. subst TapTotal (sym back) (tap-total taps t (in-taps finite u));
+      codes = λ e t u v w. subst Q15Total (sym back) (q15-total taps t (in-taps finite u) (in-taps takes v) (in-taps unsaturated w));
+    }
+sound-totals (Turned why) before numbered = record { taps = λ e t u. absurd (numbered e); codes = λ e t u v w. absurd (numbered e) }
 
-of-writes : (d : Designed) (before after : List ℕ) (r : Report) → Sound d → Writes d before r after → Bounded r after
-of-writes d before after r s w = subst (λ (z : List ℕ). Bounded r z) (sym (w .buffer)) (subst (λ (z : Report). Bounded z (written d before)) (sym (w .answer)) (of-design d before s))
+of-writes : {o : Outcome} {before after : List ℕ} {r : Report} → Sound o → Writes o before r after → Totals r after
+of-writes {o} {before} s w = by-writes Totals w (sound-totals o before s)
 
--- ---- what `pel_lowpass` writes
-pub lowpass-written : (cutoff rate : Float) (code : ℕ) (beta : Float) (before after : List ℕ) (r : Report) → Writes (lowpassBytes cutoff rate (windowOf code beta) (length before)) before r after
-    → r .number ≡ 0 → T (finite (r .value)) → Each finite (floatsIn (r .count) after) → TapTotal (floatsIn (r .count) after)
-lowpass-written cutoff rate code beta before after r w = of-writes _ before after r (lowpass-bytes-sound cutoff rate code beta (length before)) w
+-- ---- of each export; `Writes` is what it ensures
+-- `pel_lowpass`
+pub lowpass-written : (cutoff rate : Float) (code : ℕ) (beta : Float) (before after : List ℕ) (r : Report) → Writes (lowpassBytes cutoff rate (windowOf code beta) (length before)) before r after → Totals r after
+lowpass-written cutoff rate code beta before after r w = of-writes (lowpass-bytes-sound cutoff rate (windowOf code beta) (length before)) w
 
--- ---- what `pel_spec_design` writes
-pub spec-written : (spec : DesignSpec) (rate : Float) (m : ℕ) (before after : List ℕ) (r : Report) → Writes (specBytes spec rate m (length before)) before r after
-    → r .number ≡ 0 → T (finite (r .value)) → Each finite (floatsIn (r .count) after) → TapTotal (floatsIn (r .count) after)
-spec-written spec rate m before after r w = of-writes _ before after r (spec-bytes-sound spec rate m (length before)) w
+-- `pel_spec_design`
+pub spec-written : (spec : DesignSpec) (rate : Float) (m : ℕ) (before after : List ℕ) (r : Report) → Writes (specBytes spec rate m (length before)) before r after → Totals r after
+spec-written spec rate m before after r w = of-writes (spec-bytes-sound spec rate m (length before)) w
+
+-- `pel_halfband`
+pub halfband-written : (beta : Float) (before after : List ℕ) (r : Report) → Writes (halfbandBytes beta (length before)) before r after → Totals r after
+halfband-written beta before after r w = of-writes (halfband-bytes-sound beta (length before)) w
+
+-- `pel_gaussian`
+pub gaussian-written : (bt : Float) (sps span : ℕ) (before after : List ℕ) (r : Report) → Writes (gaussianBytes bt sps span (length before)) before r after → Totals r after
+gaussian-written bt sps span before after r w = of-writes (gaussian-bytes-sound bt sps span (length before)) w
+
+-- `pel_channelizer_prototype`
+pub channelizer-written : (channels branch : ℕ) (passband stopband attenuation : Float) (before after : List ℕ) (r : Report) → Writes (channelizerBytes channels branch passband stopband attenuation (length before)) before r after → Totals r after
+channelizer-written channels branch passband stopband attenuation before after r w = of-writes (channelizer-bytes-sound channels branch passband stopband attenuation (length before)) w
