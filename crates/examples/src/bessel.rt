@@ -1,8 +1,8 @@
 // Examples of the Bessel series.
-use crate::answers::nan;
-use crate::answers::near;
-use crate::tell::Counts;
-use crate::tell::example;
+use expect::answers::nan;
+use expect::answers::near;
+use expect::tell::Counts;
+use expect::tell::example;
 use series::bessel_i0;
 
 pub fn terms(mut c: Counts) -> Counts {

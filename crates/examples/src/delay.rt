@@ -1,11 +1,25 @@
 // Examples of the delay of a filter.
-use crate::answers::is_samples;
-use crate::answers::of_delayed;
-use crate::answers::same;
-use crate::tell::Counts;
-use crate::tell::example;
+use expect::answers::none;
+use expect::answers::same;
+use expect::tell::Counts;
+use expect::tell::example;
+use fir::delay::Delayed;
 use fir::delay::delay;
 use refusal::Refusal;
+
+fn of_delayed(d: Delayed) -> Refusal {
+    match d {
+        Delayed::Samples(_) => none(),
+        Delayed::Refused(why) => why,
+    }
+}
+
+fn is_samples(d: Delayed, samples: u64) -> bool {
+    match d {
+        Delayed::Samples(n) => n == samples,
+        Delayed::Refused(_) => false,
+    }
+}
 
 pub fn samples(mut c: Counts) -> Counts {
     c = example(c, b"delay(1) is 0", is_samples(delay(1), 0));

@@ -1,17 +1,32 @@
 // Examples of Kaiser's formulas: beta, and the number of taps.
-use crate::answers::nan;
-use crate::answers::near;
-use crate::answers::of_length;
-use crate::answers::order_beta;
-use crate::answers::order_taps;
-use crate::answers::same;
-use crate::answers::taps;
-use crate::tell::Counts;
-use crate::tell::example;
+use expect::answers::nan;
+use expect::answers::near;
+use expect::answers::of_length;
+use expect::answers::same;
+use expect::answers::taps;
+use expect::tell::Counts;
+use expect::tell::example;
 use kaiser::beta::kaiser_beta;
+use kaiser::order::Order;
 use kaiser::order::halfband_len;
 use kaiser::order::kaiserord;
 use refusal::Refusal;
+
+// The taps of an order, 0 where it is refused: no order has 0.
+fn order_taps(o: Order) -> u64 {
+    match o {
+        Order::Taps(n, _) => n,
+        Order::Refused(_) => 0,
+    }
+}
+
+// The beta of an order, a NaN where it is refused: no order has one.
+fn order_beta(o: Order) -> f64 {
+    match o {
+        Order::Taps(_, beta) => beta,
+        Order::Refused(_) => nan(),
+    }
+}
 
 // Two negative signs are taken: the width is their quotient.
 pub fn signs(mut c: Counts) -> Counts {

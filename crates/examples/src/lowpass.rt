@@ -1,14 +1,14 @@
 // Examples of low-pass filters by a cutoff, a window and a number of taps.
-use crate::answers::nan;
-use crate::answers::near;
-use crate::answers::none;
-use crate::answers::of_designed;
-use crate::answers::of_filled;
-use crate::answers::same;
-use crate::taps::all_are;
-use crate::taps::sum;
-use crate::tell::Counts;
-use crate::tell::example;
+use expect::answers::nan;
+use expect::answers::near;
+use expect::answers::none;
+use expect::answers::of_designed;
+use expect::answers::of_filled;
+use expect::answers::same;
+use expect::taps::all_are;
+use expect::taps::sum;
+use expect::tell::Counts;
+use expect::tell::example;
 use fir::lowpass::Designed;
 use fir::lowpass::Lowpass;
 use fir::lowpass::firwin_lowpass;

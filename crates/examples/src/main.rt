@@ -1,15 +1,12 @@
 // Checks worked examples whose answers are known from outside: a line for each, and a last line with the counts.
-mod answers;
 mod bessel;
 mod delay;
 mod formulas;
 mod lowpass;
 mod spec;
-mod taps;
-mod tell;
 
 fn main() {
-    let mut c = tell::begun();
+    let mut c = expect::tell::begun();
     c = formulas::signs(c);
     c = formulas::betas(c);
     c = formulas::orders(c);
@@ -22,5 +19,5 @@ fn main() {
     c = spec::caps(c);
     c = spec::buffers(c);
     c = delay::samples(c);
-    tell::total(c);
+    expect::tell::total(c);
 }

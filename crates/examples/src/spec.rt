@@ -1,14 +1,14 @@
 // Examples of low-pass filters by what they have to do.
-use crate::answers::near;
-use crate::answers::none;
-use crate::answers::of_filled;
-use crate::answers::of_length;
-use crate::answers::same;
-use crate::answers::taps;
-use crate::taps::all_are;
-use crate::taps::sum;
-use crate::tell::Counts;
-use crate::tell::example;
+use expect::answers::near;
+use expect::answers::none;
+use expect::answers::of_filled;
+use expect::answers::of_length;
+use expect::answers::same;
+use expect::answers::taps;
+use expect::taps::all_are;
+use expect::taps::sum;
+use expect::tell::Counts;
+use expect::tell::example;
 use fir::spec::DesignSpec;
 use refusal::Refusal;
 

@@ -3,7 +3,8 @@ use Prim.Native.Nat.{ℕ, _^_}
 use mathlib.Core.Bool.{Bool, true, false, _&&_}
 use mathlib.Core.List.{List, [], _∷_}
 use lib.Dec.{T, eqb}
-use lib.Ieee.{Float, binary64, ofBits, toBits, ofInt, round, add, sub, mul, div, neg, lt, le, eq, ne, toUnsigned}
+use lib.IntN.{ℤ, pos, negsuc}
+use lib.Ieee.{Float, nan, binary64, ofBits, toBits, ofInt, round, add, sub, mul, div, neg, lt, le, eq, ne, toUnsigned}
 use Rattle.laws.specs.Binary64.{b64, whole, fraction, fact, over, nested}
 use Rattle.laws.specs.Floor.{floorZ, ceilZ}
 use Rattle.laws.specs.Sums.{sumTo}
@@ -23,6 +24,12 @@ use Rattle.fir.specs.Lowpass.{lowpassOf, tapOf}
 use Rattle.fir.specs.declared.window.Window.the-variants.{Hann}
 use Rattle.fir.specs.declared.lowpass.Designed.{Designed}
 use Rattle.fir.specs.declared.lowpass.Designed.the-variants as Designed
+use Rattle.halfband.specs.Halfband.{lengthTaken, halfbandOf}
+use Rattle.halfband.specs.declared.HalfbandDesigned.{HalfbandDesigned}
+use Rattle.halfband.specs.declared.HalfbandDesigned.the-variants as HalfbandDesigned
+use Rattle.conversions.specs.Q15.{moved, takes, q15Of, q15TapOf}
+use Rattle.conversions.specs.declared.q15.Coded.{Coded}
+use Rattle.conversions.specs.declared.q15.Coded.the-variants as Coded
 
 -- ---- tests
 -- x has the bit pattern n
@@ -50,6 +57,36 @@ unfoldable pub turnsDown : ℕ → Designed → Bool
 turnsDown k (Designed.Ready l) = false
 turnsDown k (Designed.Refused why) = isPlain k why
 
+-- a half-band that is refused with the number k alone
+unfoldable pub turnsHalfband : ℕ → HalfbandDesigned → Bool
+turnsHalfband k (HalfbandDesigned.Ready d) = false
+turnsHalfband k (HalfbandDesigned.Refused why) = isPlain k why
+
+-- −32768 is `negsuc 32767`
+unfoldable pub sameInt : ℤ → ℤ → Bool
+sameInt (pos a) (pos b) = eqb a b
+sameInt (pos a) (negsuc b) = false
+sameInt (negsuc a) (pos b) = false
+sameInt (negsuc a) (negsuc b) = eqb a b
+
+-- a tap whose Q15 number is z
+unfoldable pub isCode : ℤ → Coded → Bool
+isCode z (Coded.Number q) = sameInt q z
+isCode z (Coded.Refused why) = false
+
+-- a refusal with 11: the element's index, and the bit patterns of the smallest, largest and offered value
+unfoldable pub isElement : ℕ → ℕ → ℕ → ℕ → Refusal → Bool
+isElement i least most offered (Plain j) = false
+isElement i least most offered (Range j lo hi got) = false
+isElement i least most offered (Length expected given) = false
+isElement i least most offered (Cap n cap) = false
+isElement i least most offered (Element j lo hi got) = eqb j i && is64 lo least && is64 hi most && is64 got offered
+
+-- a tap, element i and of the bit pattern n, that has no Q15 number
+unfoldable pub isOutside : ℕ → ℕ → Coded → Bool
+isOutside i n (Coded.Number q) = false
+isOutside i n (Coded.Refused why) = isElement i 0xBFF0_28D5_70A3_D70A 0x3FF0_28D5_70A3_D70A n why
+
 -- ---- the list
 unfoldable pub examples : List Bool
 examples =
@@ -63,6 +100,16 @@ examples =
     -- Hann, cutoff 0.25, rate 1: one tap is 1, two taps give 10
     ∷ firstTap 0x3FF0_0000_0000_0000 (lowpassOf (fraction 1 4) (whole 1) Hann 1)
     ∷ turnsDown 10 (lowpassOf (fraction 1 4) (whole 1) Hann 2)
+    -- half-band of 5: 6
+    ∷ turnsHalfband 6 (halfbandOf (whole 0) 5)
+    -- Q15: 1 to 32767, −1 to −32768, 2^−16 to 1, −2^−16 to 0
+    ∷ isCode (pos 32767) (q15TapOf 0 (whole 1))
+    ∷ isCode (negsuc 32767) (q15TapOf 1 (neg (whole 1)))
+    ∷ isCode (pos 1) (q15TapOf 2 (fraction 1 65536))
+    ∷ isCode (pos 0) (q15TapOf 3 (neg (fraction 1 65536)))
+    -- 1.01 and a NaN give 11, with their index
+    ∷ isOutside 4 0x3FF0_28F5_C28F_5C29 (q15TapOf 4 (fraction 101 100))
+    ∷ isOutside 5 0x7FF8_0000_0000_0000 (q15TapOf 5 nan)
     ∷ []
 
 unfoldable pub all : List Bool → Bool
@@ -70,5 +117,5 @@ all [] = true
 all (b ∷ bs) = b && all bs
 
 pub examples-hold : T (all examples)
-unfolding all examples is64 isPlain isOrder firstTap turnsDown sqrtOf seriesOf orderOf lowpassOf tapOf betaOf pow04Of ofBits toBits ofInt round add sub mul div neg lt le eq ne toUnsigned positive floorOf ceilOf absOf asFloat floorZ ceilZ sinOf cosOf windowAt normOf sumTo fact over nested
+unfolding all examples is64 isPlain isOrder firstTap turnsDown turnsHalfband sameInt isCode isElement isOutside sqrtOf seriesOf orderOf lowpassOf tapOf halfbandOf lengthTaken moved takes q15Of q15TapOf betaOf pow04Of ofBits toBits ofInt round add sub mul div neg lt le eq ne toUnsigned positive floorOf ceilOf absOf asFloat floorZ ceilZ sinOf cosOf windowAt normOf sumTo fact over nested
 examples-hold = tt

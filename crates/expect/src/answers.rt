@@ -1,9 +1,7 @@
 // Whether an answer is the one that is expected: a number, a float or a refusal.
-use fir::delay::Delayed;
 use fir::lowpass::Designed;
 use fir::lowpass::Filled;
 use kaiser::order::Length;
-use kaiser::order::Order;
 use refusal::Refusal;
 
 pub fn nan() -> f64 {
@@ -48,14 +46,21 @@ fn is_cap(why: Refusal, taps: u64, cap: u64) -> bool {
     }
 }
 
-// Whether two refusals have the same shape and the same numbers. No example has an element's.
+fn is_element(why: Refusal, index: u64, lo: f64, hi: f64, got: f64) -> bool {
+    match why {
+        Refusal::Element(i, a, b, x) => i == index && a == lo && b == hi && x == got,
+        _ => false,
+    }
+}
+
+// Whether two refusals have the same shape and the same numbers; a NaN equals nothing.
 pub fn same(why: Refusal, expected: Refusal) -> bool {
     match expected {
         Refusal::Plain(k) => is_plain(why, k),
         Refusal::Range(k, lo, hi, got) => is_range(why, k, lo, hi, got),
         Refusal::Length(n, m) => is_length(why, n, m),
         Refusal::Cap(n, m) => is_cap(why, n, m),
-        Refusal::Element(_, _, _, _) => false,
+        Refusal::Element(i, lo, hi, got) => is_element(why, i, lo, hi, got),
     }
 }
 
@@ -77,36 +82,6 @@ pub fn of_designed(d: Designed) -> Refusal {
     match d {
         Designed::Ready(_) => none(),
         Designed::Refused(why) => why,
-    }
-}
-
-pub fn of_delayed(d: Delayed) -> Refusal {
-    match d {
-        Delayed::Samples(_) => none(),
-        Delayed::Refused(why) => why,
-    }
-}
-
-pub fn is_samples(d: Delayed, samples: u64) -> bool {
-    match d {
-        Delayed::Samples(n) => n == samples,
-        Delayed::Refused(_) => false,
-    }
-}
-
-// The taps of an order, 0 where it is refused: no order has 0.
-pub fn order_taps(o: Order) -> u64 {
-    match o {
-        Order::Taps(n, _) => n,
-        Order::Refused(_) => 0,
-    }
-}
-
-// The beta of an order, a NaN where it is refused: no order has one.
-pub fn order_beta(o: Order) -> f64 {
-    match o {
-        Order::Taps(_, beta) => beta,
-        Order::Refused(_) => nan(),
     }
 }
 

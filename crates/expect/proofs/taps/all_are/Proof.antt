@@ -1,9 +1,9 @@
--- `examples::taps::all_are` is safe and ends: the measure is what is left of the length. Assumes nothing.
+-- `expect::taps::all_are` is safe and ends: the measure is what is left of the length. Assumes nothing.
 use Prim.Native.Nat.{_≤_, _-_}
 use borrow.Author.Needs.{needs}
 use lib.ListN.{length}
-use Rattle.examples.proofs.taps.all_are.Statement.{statement}
-use Rattle.examples.proofs.taps.all_are.Tie as tie
+use Rattle.expect.proofs.taps.all_are.Statement.{statement}
+use Rattle.expect.proofs.taps.all_are.Tie as tie
 
 abbrev Inv-loop : tie.InvT-loop
 Inv-loop taps mark i₀ i = i ≤ length taps
