@@ -1,26 +1,27 @@
 // Kinds 16 to 20: the low-pass designs. A line has the arguments of an export and its report; those that write to a buffer are judged apart.
-use crate::pattern::float_at;
-use crate::tally;
-use crate::tally::COUNTS;
-use crate::tally::Verdict;
-use crate::told;
 use crate::written;
 use border::lowpass::pel_lowpass_new;
 use border::spec::pel_spec_lowpass;
 use border::spec::pel_spec_num_taps;
+use listed::line::WORDS;
+use listed::pattern::float_at;
+use listed::tally;
+use listed::tally::COUNTS;
+use listed::tally::Verdict;
+use listed::told;
 use refusal::Report;
 
 // The words before the report, where nothing is written.
 const ARGUMENTS: usize = 5;
 
-fn lowpass_new(words: &[u64; 64]) -> Report {
+fn lowpass_new(words: &[u64; WORDS]) -> Report {
     let cutoff = float_at(words, 0);
     let rate = float_at(words, 1);
     let beta = float_at(words, 3);
     pel_lowpass_new(cutoff, rate, words[2], beta, words[4])
 }
 
-fn spec(kind: usize, words: &[u64; 64]) -> Report {
+fn spec(kind: usize, words: &[u64; WORDS]) -> Report {
     let cutoff = float_at(words, 0);
     let transition = float_at(words, 1);
     let attenuation = float_at(words, 2);
@@ -32,7 +33,7 @@ fn spec(kind: usize, words: &[u64; 64]) -> Report {
     }
 }
 
-pub(crate) fn judge(kind: usize, words: &[u64; 64], count: usize) -> Verdict {
+pub(crate) fn judge(kind: usize, words: &[u64; WORDS], count: usize) -> Verdict {
     match kind {
         16 => told::judge(lowpass_new(words), words, ARGUMENTS, count),
         18 | 19 => told::judge(spec(kind, words), words, ARGUMENTS, count),

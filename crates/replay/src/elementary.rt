@@ -1,8 +1,9 @@
 // Kinds 1 to 8: the elementary functions. A line has the bits of an argument and those of the answer.
-use crate::pattern;
-use crate::tally;
-use crate::tally::COUNTS;
-use crate::tally::Verdict;
+use listed::line::WORDS;
+use listed::pattern;
+use listed::tally;
+use listed::tally::COUNTS;
+use listed::tally::Verdict;
 
 fn answer(kind: usize, x: f64) -> f64 {
     match kind {
@@ -17,20 +18,7 @@ fn answer(kind: usize, x: f64) -> f64 {
     }
 }
 
-fn say_name(kind: usize) {
-    match kind {
-        1 => tally::say(b"floor"),
-        2 => tally::say(b"ceil"),
-        3 => tally::say(b"fabs"),
-        4 => tally::say(b"sqrt"),
-        5 => tally::say(b"sin"),
-        6 => tally::say(b"cos"),
-        7 => tally::say(b"exp"),
-        _ => tally::say(b"pow04"),
-    }
-}
-
-pub(crate) fn judge(kind: usize, words: &[u64; 64], count: usize) -> Verdict {
+pub(crate) fn judge(kind: usize, words: &[u64; WORDS], count: usize) -> Verdict {
     if count != 2 {
         return Verdict::Unreadable;
     }
@@ -44,8 +32,12 @@ pub(crate) fn judge(kind: usize, words: &[u64; 64], count: usize) -> Verdict {
 
 // Prints a line for each kind.
 pub(crate) fn report(counts: &[u64; COUNTS]) {
-    for kind in 1..=8 {
-        say_name(kind);
-        tally::of_kind(kind, counts);
-    }
+    tally::named(b"floor", 1, counts);
+    tally::named(b"ceil", 2, counts);
+    tally::named(b"fabs", 3, counts);
+    tally::named(b"sqrt", 4, counts);
+    tally::named(b"sin", 5, counts);
+    tally::named(b"cos", 6, counts);
+    tally::named(b"exp", 7, counts);
+    tally::named(b"pow04", 8, counts);
 }

@@ -1,26 +1,24 @@
 // Kinds 11 to 15: Kaiser's shape, lengths and delays. A line has the arguments of an export and what it answers: a report, and of beta its bits alone.
-ghost use Prim.Native.Nat.{_≤_};
-use crate::pattern;
-use crate::pattern::float_at;
-use crate::tally;
-use crate::tally::COUNTS;
-use crate::tally::Verdict;
-use crate::told;
 use border::lengths;
 use border::shape;
+use listed::line::WORDS;
+use listed::pattern;
+use listed::pattern::float_at;
+use listed::tally;
+use listed::tally::COUNTS;
+use listed::tally::Verdict;
+use listed::told;
 use refusal::Report;
 
 // How many words a kind has before its report.
-fn arguments(kind: usize) -> usize
-    ensures { λ r. ⌜ r ≤ 3 ⌝ }
-{
+fn arguments(kind: usize) -> usize {
     match kind {
         13 | 14 => 3,
         _ => 1,
     }
 }
 
-fn answer(kind: usize, words: &[u64; 64]) -> Report {
+fn answer(kind: usize, words: &[u64; WORDS]) -> Report {
     let x = float_at(words, 0);
     let y = float_at(words, 1);
     let z = float_at(words, 2);
@@ -32,7 +30,7 @@ fn answer(kind: usize, words: &[u64; 64]) -> Report {
     }
 }
 
-fn judge_beta(words: &[u64; 64], count: usize) -> Verdict {
+fn judge_beta(words: &[u64; WORDS], count: usize) -> Verdict {
     if count != 2 {
         return Verdict::Unreadable;
     }
@@ -40,7 +38,7 @@ fn judge_beta(words: &[u64; 64], count: usize) -> Verdict {
     tally::judged(pattern::agrees(beta, words[1]))
 }
 
-pub(crate) fn judge(kind: usize, words: &[u64; 64], count: usize) -> Verdict {
+pub(crate) fn judge(kind: usize, words: &[u64; WORDS], count: usize) -> Verdict {
     if kind == 12 {
         return judge_beta(words, count);
     }

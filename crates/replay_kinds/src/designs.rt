@@ -1,0 +1,69 @@
+// Kinds 21 to 28: the half-band, the Gaussian pulse and the channelizer. A line has the arguments of an export and its report; those that write to a buffer are judged apart.
+use crate::written;
+use border::halfbands::pel_halfband_new;
+use border::prototype::pel_channelizer_lowpass;
+use border::prototype::pel_channelizer_taps;
+use border::prototype::pel_channelizer_taps_per_branch;
+use border::pulse::pel_gaussian_new;
+use listed::line::WORDS;
+use listed::pattern::float_at;
+use listed::tally;
+use listed::tally::COUNTS;
+use listed::tally::Verdict;
+use listed::told;
+use refusal::Report;
+
+// How many words a kind has before its report, where nothing is written.
+fn arguments(kind: usize) -> usize {
+    match kind {
+        21 => 2,
+        23 => 3,
+        25 | 26 => 4,
+        _ => 5,
+    }
+}
+
+fn channelizer(kind: usize, words: &[u64; WORDS]) -> Report {
+    let passband = float_at(words, 1);
+    let stopband = float_at(words, 2);
+    let attenuation = float_at(words, 3);
+    match kind {
+        25 => pel_channelizer_taps(words[0], passband, stopband, attenuation),
+        _ => pel_channelizer_taps_per_branch(words[0], passband, stopband, attenuation),
+    }
+}
+
+fn channelizer_lowpass(words: &[u64; WORDS]) -> Report {
+    let passband = float_at(words, 2);
+    let stopband = float_at(words, 3);
+    let attenuation = float_at(words, 4);
+    pel_channelizer_lowpass(words[0], words[1], passband, stopband, attenuation)
+}
+
+fn answer(kind: usize, words: &[u64; WORDS]) -> Report {
+    match kind {
+        21 => pel_halfband_new(float_at(words, 0), words[1]),
+        23 => pel_gaussian_new(float_at(words, 0), words[1], words[2]),
+        25 | 26 => channelizer(kind, words),
+        _ => channelizer_lowpass(words),
+    }
+}
+
+pub(crate) fn judge(kind: usize, words: &[u64; WORDS], count: usize) -> Verdict {
+    match kind {
+        22 | 24 | 28 => written::judge(kind, words, count),
+        _ => told::judge(answer(kind, words), words, arguments(kind), count),
+    }
+}
+
+// Prints a line for each kind.
+pub(crate) fn report(counts: &[u64; COUNTS]) {
+    tally::named(b"halfband_new", 21, counts);
+    tally::named(b"halfband", 22, counts);
+    tally::named(b"gaussian_new", 23, counts);
+    tally::named(b"gaussian", 24, counts);
+    tally::named(b"channelizer_taps", 25, counts);
+    tally::named(b"channelizer_taps_per_branch", 26, counts);
+    tally::named(b"channelizer_lowpass", 27, counts);
+    tally::named(b"channelizer_prototype", 28, counts);
+}

@@ -1,0 +1,40 @@
+// Kinds 29 to 31: numbers to Q15. A buffer that is converted is judged apart.
+use crate::converted;
+use border::q15::pel_q15_from_f64;
+use border::q15::pel_q15_tap;
+use listed::lent;
+use listed::line::WORDS;
+use listed::pattern::float_at;
+use listed::tally;
+use listed::tally::COUNTS;
+use listed::tally::Verdict;
+use listed::told;
+
+// A Q15 number is a word of its two bytes, as they stand in a buffer.
+fn judge_number(words: &[u64; WORDS], count: usize) -> Verdict {
+    if count != 2 {
+        return Verdict::Unreadable;
+    }
+    let mut out = lent::marked();
+    packed::put_i16(&mut out, 0, pel_q15_from_f64(float_at(words, 0)));
+    tally::judged(lent::holds(&out, words, 1, 1, 2))
+}
+
+fn judge_tap(words: &[u64; WORDS], count: usize) -> Verdict {
+    told::judge(pel_q15_tap(float_at(words, 0)), words, 1, count)
+}
+
+pub(crate) fn judge(kind: usize, words: &[u64; WORDS], count: usize) -> Verdict {
+    match kind {
+        29 => judge_number(words, count),
+        30 => judge_tap(words, count),
+        _ => converted::judge(words, count),
+    }
+}
+
+// Prints a line for each kind.
+pub(crate) fn report(counts: &[u64; COUNTS]) {
+    tally::named(b"q15_from_f64", 29, counts);
+    tally::named(b"q15_tap", 30, counts);
+    tally::named(b"to_q15", 31, counts);
+}
