@@ -4,9 +4,10 @@ CFLAGS ?= -O2
 STRICT = -std=c11 -Wall -Wextra -Werror -Iinclude
 CHECKED = -g -O1 -fsanitize=address,undefined -fno-sanitize-recover=all
 LIB = target/staticlib/libborder.a
+DESIGN = tools/design.c tools/kinds.c tools/words.c
 SOURCES = $(shell find crates -name '*.rt' -o -name '*.antt') crates.txt
 
-.PHONY: run functions test lib c compare bench list distance clean
+.PHONY: run functions test lib c tool compare bench list distance clean
 .SECONDARY:
 
 # What `make run` designs; say another one as in: make run ARGS="spec --cutoff 1000 --transition 200 --attenuation 60 --rate 8000"
@@ -28,14 +29,22 @@ $(LIB): $(SOURCES)
 	mkdir -p target
 	rt staticlib border >target/staticlib.log 2>&1 || { cat target/staticlib.log; exit 1; }
 
-target/tools/%: tools/%.c include/peldozkar.h $(LIB)
+target/tools/design target/tools/functions: target/tools/%: tools/%.c include/peldozkar.h $(LIB)
 	mkdir -p target/tools
-	$(CC) $(CFLAGS) $(STRICT) $< -o $@ $(LIB)
+	$(CC) $(CFLAGS) $(STRICT) $(filter %.c,$^) -o $@ $(LIB)
+
+target/tools/design: $(DESIGN) tools/kinds.h tools/words.h
 
 # The exports called from C, under the address and undefined-behaviour sanitizers.
 c: $(LIB)
 	mkdir -p target/tests
-	for name in elementary designs; do $(CC) $(STRICT) $(CHECKED) tests/c/$$name.c -o target/tests/$$name $(LIB) -lm && target/tests/$$name || exit 1; done
+	for name in elementary designs halfband pulses channelizer q15; do $(CC) $(STRICT) $(CHECKED) tests/c/$$name.c -o target/tests/$$name $(LIB) -lm && target/tests/$$name || exit 1; done
+
+# The command line of `make run`, and once more with a tap that Q15 can't take.
+tool: target/tools/design
+	mkdir -p target/tests
+	$(CC) $(STRICT) $(CHECKED) -Dpel_gaussian=wide_gaussian $(DESIGN) tests/c/wide.c -o target/tests/wide $(LIB)
+	tests/tool target/tools/design target/tests/wide
 
 # Both sides on the same inputs, by bits; skipped in one line where the Rust files are not at hand.
 compare: $(LIB)
@@ -45,10 +54,11 @@ compare: $(LIB)
 bench: $(LIB)
 	tests/differential/run bench
 
-# The stored list that the program `replay` holds the port to: answers of the Rust side alone.
+# The stored lists that the programs `replay` (kinds up to 20) and `replay_kinds` (the others) hold the port to: answers of the Rust side alone.
 list: $(LIB)
 	tests/differential/run list >target/list
-	cp target/list crates/replay/stdin
+	awk '$$1 <= 20' target/list >crates/replay/stdin
+	awk '$$1 > 20' target/list >crates/replay_kinds/stdin
 
 # The elementary functions against the crate libm (Debian: librust-libm-dev).
 distance:

@@ -1,82 +1,86 @@
-/* Designs a filter from numbers on the command line, through the C header, and prints its taps; a
- * refusal is said in words on standard error, with its number as the exit status. */
-#include <errno.h>
+/* Designs a filter from numbers on the command line, through the C header, and prints its taps or their
+ * Q15 numbers, one a line; a refusal is said in words on standard error, with its number as the exit
+ * status. */
 #include <inttypes.h>
-#include <stdbool.h>
 #include <stdio.h>
 #include <stdlib.h>
 #include <string.h>
 
-#include "peldozkar.h"
+#include "kinds.h"
 
+/* Exit statuses beside the refusals' numbers: the words were wrong, the machine failed. */
 enum { USAGE = 64, FAILED = 74 };
 
-static const char usage[] =
-    "usage: design lowpass --cutoff HZ --rate HZ --taps N [--window hann|hamming|blackman|kaiser] [--beta B]\n"
-    "       design spec --cutoff HZ --transition HZ --attenuation DB --rate HZ [--max-taps N]\n"
-    "example: design lowpass --cutoff 1000 --rate 8000 --taps 31 --window kaiser --beta 5.65326\n";
+/* ---- What is said ----------------------------------------------------------------------------- */
 
-static const char *const windows[] = {"hann", "hamming", "blackman", "kaiser"};
-
-static int refuse_words(const char *what, const char *word)
+/* The lines of one kind, or of all where the name is null. */
+static void usage(FILE *to, const char *name)
 {
-    fprintf(stderr, "design: %s %s\n%s", what, word, usage);
+    const char *lead = "usage:";
+    for (size_t k = 0; k < KINDS; k++)
+        if (name == NULL || strcmp(name, kinds[k].name) == 0) {
+            fprintf(to, "%-6s design %s %s [--q15]\n", lead, kinds[k].name, kinds[k].usage);
+            lead = "";
+        }
+}
+
+static int complain(const char *what, const char *word, const char *kind)
+{
+    fprintf(stderr, "design: %s %s\n", what, word);
+    usage(stderr, kind);
     return USAGE;
 }
 
-/* A whole word as a number; NaN and infinities are numbers too, the designer judges them. */
-static bool number(const char *word, double *x)
-{
-    char *end;
-    *x = strtod(word, &end);
-    return end != word && *end == '\0';
-}
-
-/* A whole word of decimal digits as a count. */
-static bool count(const char *word, uint64_t *n)
-{
-    if (*word == '\0' || strspn(word, "0123456789") != strlen(word))
-        return false;
-    errno = 0;
-    uintmax_t value = strtoumax(word, NULL, 10);
-    if (errno == ERANGE || value > UINT64_MAX)
-        return false;
-    *n = value;
-    return true;
-}
-
-/* What is wrong with a ticket, by the refusal's number. */
-static const char *subject(uint32_t number)
+/* A refusal's meaning that is the same for every kind. */
+static const char *common_meaning(uint32_t number)
 {
     switch (number) {
     case 1:
         return "the rate must be finite and positive";
-    case 2:
-        return "the cutoff is out of range";
     case 3:
-        return "the transition is out of range, or asks for more than 2^24 taps";
+        return "the transition must be finite and positive, and wide enough for 2^24 taps";
     case 4:
-        return "the attenuation must be at least 8 dB, and beta finite and not negative";
-    case 6:
-        return "the number of taps must be from 1 to 2^24";
+        return "the attenuation must be finite, and 8 dB or more";
     case 7:
         return "the window code is unknown";
     case 8:
         return "the buffer's length is wrong";
     case 9:
-        return "more taps are needed than allowed";
+        return "more taps are needed than --max-taps allows";
     case 10:
-        return "the taps' sum is zero or not finite: too few taps, or beta too large";
+        return "the sum that the taps are divided by is zero or not finite: too few taps, or beta too large";
+    case 11:
+        return "a tap is too large for Q15";
     default:
-        return "refused";
+        return "the ticket is refused";
     }
 }
 
-static int explain(pel_report r)
+/* The fewest digits that still name the number, so that 0.2 is said as 0.2. A NaN's sign is free, and
+ * isn't said. */
+static void say_number(const char *before, double x)
 {
-    fprintf(stderr, "design: refused with %" PRIu32 ": %s", r.number, subject(r.number));
-    if (r.carries == PEL_RANGE || r.carries == PEL_ELEMENT)
-        fprintf(stderr, " (smallest %.17g, largest %.17g, offered %.17g)", r.smallest, r.largest, r.offered);
+    char text[40] = "nan";
+    for (int digits = 15; digits <= 17 && strtod(text, NULL) != x && x == x; digits++)
+        snprintf(text, sizeof text, "%.*g", digits, x);
+    fprintf(stderr, "%s%s", before, text);
+}
+
+/* One line in words: the number, what is wrong, and what was allowed. */
+static int explain(const struct kind *k, const struct ticket *t, pel_report r)
+{
+    const char *meaning = k->meaning(t, &r);
+    if (meaning == NULL)
+        meaning = common_meaning(r.number);
+    fprintf(stderr, "design: refused with %" PRIu32 ": %s", r.number, meaning);
+    if (r.carries == PEL_RANGE || r.carries == PEL_ELEMENT) {
+        if (r.carries == PEL_ELEMENT)
+            fprintf(stderr, " (index %" PRIu64, r.index);
+        say_number(r.carries == PEL_ELEMENT ? ", smallest " : " (smallest ", r.smallest);
+        say_number(", largest ", r.largest);
+        say_number(", offered ", r.offered);
+        fputc(')', stderr);
+    }
     if (r.carries == PEL_LENGTH)
         fprintf(stderr, " (expected %" PRIu64 ", given %" PRIu64 ")", r.expected, r.given);
     if (r.carries == PEL_CAP)
@@ -85,21 +89,35 @@ static int explain(pel_report r)
     return (int)r.number;
 }
 
-/* Eight little-endian bytes as a double, whatever the machine's own order. */
-static double tap(const uint8_t *bytes)
+/* ---- Judge, allocate, design, print ----------------------------------------------------------- */
+
+/* Little-endian bytes as bits, whatever the machine's own order. */
+static uint64_t bits_at(const uint8_t *bytes, int width)
 {
     uint64_t bits = 0;
-    for (int i = 7; i >= 0; i--)
+    for (int i = width - 1; i >= 0; i--)
         bits = bits << 8 | bytes[i];
-    double x;
-    memcpy(&x, &bits, sizeof x);
-    return x;
+    return bits;
 }
 
-static int print_taps(pel_report r, const uint8_t *bytes)
+static void print_tap(const uint8_t *bytes)
 {
-    for (uint64_t i = 0; i < r.count; i++)
-        printf("%.17g\n", tap(bytes + 8 * i));
+    uint64_t bits = bits_at(bytes, 8);
+    double x;
+    memcpy(&x, &bits, sizeof x);
+    printf("%.17g\n", x);
+}
+
+static void print_q15(const uint8_t *bytes)
+{
+    int bits = (int)bits_at(bytes, 2);
+    printf("%d\n", bits < 32768 ? bits : bits - 65536);
+}
+
+static int print_all(uint64_t n, const uint8_t *bytes, size_t width, void (*print)(const uint8_t *))
+{
+    for (uint64_t i = 0; i < n; i++)
+        print(bytes + i * width);
     if (fflush(stdout) != 0 || ferror(stdout)) {
         perror("design");
         return FAILED;
@@ -107,136 +125,84 @@ static int print_taps(pel_report r, const uint8_t *bytes)
     return 0;
 }
 
-struct words {
-    const char *cutoff, *rate, *taps, *window, *beta, *transition, *attenuation, *max_taps;
-};
-
-/* Takes the options apart; each may stand once, in any order. */
-static int take(int n, char **word, struct words *w, bool spec)
+/* Fills `taps`, and `codes` behind it where Q15 is wanted; nothing is printed before all of it is there. */
+static int fill_and_print(const struct kind *k, const struct ticket *t, uint64_t n, uint8_t *taps, uint8_t *codes)
 {
-    const struct {
-        const char *name;
-        const char **place;
-        bool spec, lowpass;
-    } options[] = {
-        {"--cutoff", &w->cutoff, true, true},          {"--rate", &w->rate, true, true},
-        {"--taps", &w->taps, false, true},             {"--window", &w->window, false, true},
-        {"--beta", &w->beta, false, true},             {"--transition", &w->transition, true, false},
-        {"--attenuation", &w->attenuation, true, false}, {"--max-taps", &w->max_taps, true, false},
-    };
-    for (int i = 0; i < n; i += 2) {
-        const char **place = NULL;
-        for (size_t k = 0; k < sizeof options / sizeof options[0]; k++)
-            if (strcmp(word[i], options[k].name) == 0 && (spec ? options[k].spec : options[k].lowpass))
-                place = options[k].place;
-        if (place == NULL)
-            return refuse_words("unknown word", word[i]);
-        if (i + 1 == n)
-            return refuse_words("a value is missing after", word[i]);
-        if (*place != NULL)
-            return refuse_words("given twice:", word[i]);
-        *place = word[i + 1];
-    }
-    return 0;
+    size_t elements = (size_t)n;
+    pel_report r = k->fill(t, taps, elements * 8);
+    if (r.number != 0)
+        return explain(k, t, r);
+    if ((t->given & Q15) == 0)
+        return print_all(n, taps, 8, print_tap);
+    r = pel_to_q15(taps, elements * 8, codes, elements * 2);
+    if (r.number != 0)
+        return explain(k, t, r);
+    return print_all(n, codes, 2, print_q15);
 }
 
-static int need_number(const char *name, const char *word, double *x)
+static int design(const struct kind *k, struct ticket *t)
 {
-    if (word == NULL)
-        return refuse_words("missing:", name);
-    if (!number(word, x))
-        return refuse_words("not a number:", word);
-    return 0;
-}
-
-static uint8_t *buffer(uint64_t taps)
-{
-    if (taps > SIZE_MAX / 8)
-        return NULL;
-    return malloc(taps == 0 ? 1 : (size_t)taps * 8);
-}
-
-static int lowpass(const struct words *w)
-{
-    double cutoff, rate, beta = 0.0;
-    uint64_t taps, window = PEL_HAMMING;
-    int wrong;
-    if ((wrong = need_number("--cutoff", w->cutoff, &cutoff)) != 0 ||
-        (wrong = need_number("--rate", w->rate, &rate)) != 0)
-        return wrong;
-    if (w->taps == NULL)
-        return refuse_words("missing:", "--taps");
-    if (!count(w->taps, &taps))
-        return refuse_words("not a count:", w->taps);
-    if (w->window != NULL) {
-        for (window = 0; window < 4 && strcmp(w->window, windows[window]) != 0; window++)
-            ;
-        if (window == 4)
-            return refuse_words("unknown window:", w->window);
-    }
-    if (w->beta != NULL && !number(w->beta, &beta))
-        return refuse_words("not a number:", w->beta);
-    if (window == PEL_KAISER && w->beta == NULL)
-        return refuse_words("missing:", "--beta");
-
     /* Judged first, so that an impossible count is a refusal and not a want of memory. */
-    pel_report r = pel_lowpass_new(cutoff, rate, window, beta, taps);
+    pel_report r = k->judge(t);
     if (r.number != 0)
-        return explain(r);
-    uint8_t *out = buffer(taps);
-    if (out == NULL) {
-        fprintf(stderr, "design: no memory for %" PRIu64 " taps\n", taps);
+        return explain(k, t, r);
+    uint8_t *room = r.count > SIZE_MAX / 10 ? NULL : malloc((size_t)r.count * 10);
+    if (room == NULL) {
+        fprintf(stderr, "design: no memory for %" PRIu64 " taps\n", r.count);
         return FAILED;
     }
-    r = pel_lowpass(cutoff, rate, window, beta, out, (size_t)taps * 8);
-    int status = r.number != 0 ? explain(r) : print_taps(r, out);
-    free(out);
+    int status = fill_and_print(k, t, r.count, room, room + (size_t)r.count * 8);
+    free(room);
     return status;
 }
 
-static int spec(const struct words *w)
+/* ---- From words to a kind --------------------------------------------------------------------- */
+
+/* The options of every row of a name; 0 for an unknown one. */
+static unsigned options_of(const char *name)
 {
-    double cutoff, transition, attenuation, rate;
-    uint64_t max_taps = 1 << 24;
-    int wrong;
-    if ((wrong = need_number("--cutoff", w->cutoff, &cutoff)) != 0 ||
-        (wrong = need_number("--transition", w->transition, &transition)) != 0 ||
-        (wrong = need_number("--attenuation", w->attenuation, &attenuation)) != 0 ||
-        (wrong = need_number("--rate", w->rate, &rate)) != 0)
-        return wrong;
-    if (w->max_taps != NULL && !count(w->max_taps, &max_taps))
-        return refuse_words("not a count:", w->max_taps);
-    pel_report r = pel_spec_num_taps(cutoff, transition, attenuation, rate, max_taps);
-    if (r.number != 0)
-        return explain(r);
-    uint64_t taps = r.count;
-    uint8_t *out = buffer(taps);
-    if (out == NULL) {
-        fprintf(stderr, "design: no memory for %" PRIu64 " taps\n", taps);
-        return FAILED;
-    }
-    r = pel_spec_design(cutoff, transition, attenuation, rate, max_taps, out, (size_t)taps * 8);
-    int status = r.number != 0 ? explain(r) : print_taps(r, out);
-    free(out);
-    return status;
+    unsigned set = 0;
+    for (size_t k = 0; k < KINDS; k++)
+        if (strcmp(name, kinds[k].name) == 0)
+            set |= kinds[k].needs | kinds[k].may | Q15;
+    return set;
+}
+
+/* The first row of a name that has every option given. */
+static const struct kind *row_for(const char *name, unsigned given)
+{
+    for (size_t k = 0; k < KINDS; k++)
+        if (strcmp(name, kinds[k].name) == 0 && (given & ~(kinds[k].needs | kinds[k].may | Q15)) == 0)
+            return &kinds[k];
+    return NULL;
 }
 
 int main(int argc, char **argv)
 {
-    struct words w = {0};
     if (argc < 2) {
-        fputs(usage, stderr);
+        usage(stderr, NULL);
         return USAGE;
     }
     if (strcmp(argv[1], "--help") == 0) {
-        fputs(usage, stdout);
+        usage(stdout, NULL);
         return 0;
     }
-    bool is_spec = strcmp(argv[1], "spec") == 0;
-    if (!is_spec && strcmp(argv[1], "lowpass") != 0)
-        return refuse_words("unknown kind", argv[1]);
-    int wrong = take(argc - 2, argv + 2, &w, is_spec);
-    if (wrong != 0)
-        return wrong;
-    return is_spec ? spec(&w) : lowpass(&w);
+    const char *name = argv[1];
+    unsigned allowed = options_of(name);
+    if (allowed == 0)
+        return complain("unknown kind", name, NULL);
+
+    struct ticket t = {.window = PEL_HAMMING, .max_taps = 1 << 24};
+    struct complaint wrong = take_words(argc - 2, argv + 2, allowed, &t);
+    if (wrong.what != NULL)
+        return complain(wrong.what, wrong.word, name);
+    const struct kind *k = row_for(name, t.given);
+    if (k == NULL)
+        return complain("the options belong to two ways of asking for a", name, name);
+    /* Kaiser's window is the only one with a shape to give. */
+    unsigned needs = k->needs | (t.window == PEL_KAISER ? BETA : 0);
+    const char *missing = first_option(needs & ~t.given);
+    if (missing != NULL)
+        return complain("missing:", missing, name);
+    return design(k, &t);
 }

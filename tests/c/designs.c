@@ -1,100 +1,9 @@
-/* Calls every design export from C with good, bad and hostile arguments: what is answered, what a
- * refusal carries, and every byte of the buffer and around it. Expected values are from the formulas by
- * hand, never from the functions under test. */
-#include <stdlib.h>
-
-#include "expect.h"
-
-#include "peldozkar.h"
-
-#define GUARD 32
-#define MARK 0xA5
+/* Calls the exports of Kaiser's formulas and of low-pass filters from C with good, bad and hostile
+ * arguments: what is answered, what a refusal carries, and every byte of the buffer and around it.
+ * Expected values are from the formulas by hand, never from the functions under test. */
+#include "ticket.h"
 
 static const double inf = INFINITY, quiet = NAN, tiny = 5e-324, huge = 1.7976931348623157e308;
-
-/* The parts of a report that a refusal has, in one call. */
-static void refusal(const char *what, pel_report r, uint32_t number, uint32_t carries, double lo, double hi, double got,
-                    uint64_t expected, uint64_t given)
-{
-    char name[200];
-    snprintf(name, sizeof name, "%s: number", what);
-    expect_count(name, r.number, number);
-    snprintf(name, sizeof name, "%s: carries", what);
-    expect_count(name, r.carries, carries);
-    expect(what, r.smallest, lo);
-    expect(what, r.largest, hi);
-    expect(what, r.offered, got);
-    expect_count(what, r.expected, expected);
-    expect_count(what, r.given, given);
-    expect_count(what, r.index, 0);
-    expect_count(what, r.count, 0);
-    expect(what, r.value, 0.0);
-}
-
-static void plain(const char *what, pel_report r, uint32_t number)
-{
-    refusal(what, r, number, PEL_NOTHING, 0, 0, 0, 0, 0);
-}
-
-static void range(const char *what, pel_report r, uint32_t number, double lo, double hi, double got)
-{
-    refusal(what, r, number, PEL_RANGE, lo, hi, got, 0, 0);
-}
-
-static void length(const char *what, pel_report r, uint64_t expected, uint64_t given)
-{
-    refusal(what, r, 8, PEL_LENGTH, 0, 0, 0, expected, given);
-}
-
-#define PLAIN(call, number) plain(#call, call, number)
-#define RANGE(call, number, lo, hi, got) range(#call, call, number, lo, hi, got)
-
-/* A buffer of its own for each call, so that the sanitizer sees every byte past its end; marked, and
- * lent at an odd address. */
-static uint8_t *lent, *kept;
-static size_t room;
-
-static uint8_t *lend(size_t bytes)
-{
-    free(kept);
-    room = bytes;
-    kept = malloc(2 * GUARD + bytes);
-    if (kept == NULL)
-        abort();
-    memset(kept, MARK, 2 * GUARD + bytes);
-    lent = kept + GUARD + 1;
-    return lent;
-}
-
-static void untouched(const char *what, size_t from, size_t to)
-{
-    for (size_t i = from; i < to; i++)
-        if (kept[i] != MARK) {
-            expect_count(what, kept[i], MARK);
-            return;
-        }
-    checked++;
-}
-
-/* A refusal leaves every byte; an acceptance those around the buffer. */
-static void as_it_came(const char *what)
-{
-    untouched(what, 0, 2 * GUARD + room);
-}
-
-static void around(const char *what)
-{
-    untouched(what, 0, GUARD + 1);
-    untouched(what, GUARD + 1 + room, 2 * GUARD + room);
-}
-
-static double tap(uint64_t i)
-{
-    uint64_t b = 0;
-    for (int k = 7; k >= 0; k--)
-        b = b << 8 | lent[8 * i + k];
-    return of_bits(b);
-}
 
 static void formulas(void)
 {
@@ -163,9 +72,9 @@ static void lowpass(void)
     PLAIN(pel_lowpass(quiet, quiet, 4, quiet, lend(13), 13), 7);
     as_it_came("7 before all others");
     PLAIN(pel_lowpass(0.25, 1, UINT64_MAX, 0, lend(8), 8), 7);
-    length("8 before the rate", pel_lowpass(quiet, quiet, PEL_KAISER, quiet, lend(13), 13), 8, 13);
+    report("8 before the rate", pel_lowpass(quiet, quiet, PEL_KAISER, quiet, lend(13), 13), length(8, 13));
     as_it_came("8");
-    length("8 below one tap", pel_lowpass(0.25, 1, 0, 0, lend(5), 5), 0, 5);
+    report("8 below one tap", pel_lowpass(0.25, 1, 0, 0, lend(5), 5), length(0, 5));
     PLAIN(pel_lowpass(quiet, -1, PEL_KAISER, quiet, lend(0), 0), 1);
     PLAIN(pel_lowpass(0.25, inf, PEL_HANN, 0, lend(8), 8), 1);
     RANGE(pel_lowpass(4000, 8000, PEL_KAISER, quiet, lend(0), 0), 2, 0.0, 4000.0, 4000.0);
@@ -189,7 +98,7 @@ static void spec(void)
 {
     pel_report r = pel_spec_num_taps(1000, 100, 60, 8000, 293);
     expect_count("spec", r.count, 293);
-    refusal("9", pel_spec_num_taps(1000, 100, 60, 8000, 292), 9, PEL_CAP, 293, 16777216, 292, 293, 292);
+    report("9", pel_spec_num_taps(1000, 100, 60, 8000, 292), cap(293, 292));
     PLAIN(pel_spec_num_taps(1000, 100, 60, -8000, 292), 1);
     RANGE(pel_spec_num_taps(quiet, -100, 3, 8000, 0), 3, 0.0, 4000.0, -100.0);
     RANGE(pel_spec_num_taps(3951, 100, 3, 8000, 0), 2, 0.0, 3950.0, 3951.0);
@@ -204,11 +113,11 @@ static void spec(void)
         sum += tap(i);
     expect("its taps add up to 1", fabs(sum - 1.0) < 1e-14 ? 1.0 : sum, 1.0);
     around("designed");
-    length("8 in taps", pel_spec_design(1000, 100, 60, 8000, 1000, lend(8 * 292), 8 * 292), 293, 292);
+    report("8 in taps", pel_spec_design(1000, 100, 60, 8000, 1000, lend(8 * 292), 8 * 292), length(293, 292));
     as_it_came("8 in taps");
-    length("8 in bytes", pel_spec_design(quiet, quiet, quiet, quiet, 0, lend(17), 17), 16, 17);
+    report("8 in bytes", pel_spec_design(quiet, quiet, quiet, quiet, 0, lend(17), 17), length(16, 17));
     as_it_came("8 in bytes");
-    refusal("9 before 8", pel_spec_design(1000, 100, 60, 8000, 292, lend(8), 8), 9, PEL_CAP, 293, 16777216, 292, 293, 292);
+    report("9 before 8", pel_spec_design(1000, 100, 60, 8000, 292, lend(8), 8), cap(293, 292));
     as_it_came("9");
 
     /* The quotient cutoff/rate can still be 0 after all tests of the specification. */
@@ -244,12 +153,15 @@ static void hostile(void)
     }
 }
 
-int main(void)
+static void tests(void)
 {
     formulas();
     lowpass();
     spec();
     hostile();
-    free(kept);
-    return tally("designs");
+}
+
+int main(void)
+{
+    return both_ways(tests, "low-pass designs");
 }

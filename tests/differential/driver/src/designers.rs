@@ -1,29 +1,34 @@
 //! Both sides' answers to a ticket: the Rust files' as reports and taps, and the port's.
 
-use sdrk_blocks::access::Lowpass;
+use sdrk_blocks::access::{Gaussian, Halfband, Lowpass};
 use sdrk_blocks::design::{
-    DesignSpec, DesignWindow, firwin_lowpass, halfband_len, kaiser_beta, kaiserord,
+    DesignSpec, DesignWindow, channelizer_prototype, channelizer_taps, channelizer_taps_per_branch,
+    firwin_lowpass, gaussian, halfband_len, halfband_taps, kaiser_beta, kaiserord,
 };
 use sdrk_blocks::{Error, Result};
 use sdrk_core::window::bessel_i0;
 
+use crate::conversions;
 use crate::functions::same;
 use crate::port;
 use crate::random::Random;
 use crate::report::Report;
-use crate::tickets::{Band, Spec, Ticket};
+use crate::tickets::{Band, Channels, Spec, Ticket};
 
-/// A report and, for an accepted design, its taps.
+/// A report and what is written: the taps of an accepted design, or the Q15 numbers of a
+/// conversion, also of one that stopped.
+#[derive(Default)]
 pub struct Answer {
     pub report: Report,
     pub taps: Vec<f64>,
+    pub q15: Vec<i16>,
 }
 
 impl From<Report> for Answer {
     fn from(report: Report) -> Self {
         Self {
             report,
-            taps: Vec::new(),
+            ..Self::default()
         }
     }
 }
@@ -32,17 +37,18 @@ impl From<Report> for Answer {
 fn number(name: &str) -> u32 {
     match name {
         "fs_hz" => 1,
-        "cutoff_hz" => 2,
+        "cutoff_hz" | "passband" | "stopband" => 2,
         "transition_hz" => 3,
         "attenuation_db" | "beta" => 4,
-        "num_taps" => 6,
+        "bt" => 5,
+        "num_taps" | "taps" | "span" | "sps" | "channels" | "taps_per_branch" => 6,
         "window" => 10,
         _ => panic!("an error of the Rust that has no number: {name}"),
     }
 }
 
 /// The report of an error of the Rust.
-fn refusal(error: Error) -> Report {
+pub fn refusal(error: Error) -> Report {
     match error {
         Error::InvalidParameter { name, .. } => Report::plain(number(name)),
         // Both counts are at most 2^24 + 1, so they come back whole from the error's f64.
@@ -52,6 +58,12 @@ fn refusal(error: Error) -> Report {
             max,
             got,
         } => Report::cap(min as u64, max, got as u64),
+        Error::OutOfRange {
+            name: "tap",
+            min,
+            max,
+            got,
+        } => Report::element(0, min, max, got),
         Error::OutOfRange {
             name,
             min,
@@ -113,11 +125,25 @@ fn recorded(answer: Result<Lowpass>) -> Report {
     })
 }
 
+/// Why the Rust refused a ticket that it was lent a buffer for.
+enum Refused {
+    /// The buffer must be as it came.
+    Left(Report),
+    /// The Rust has written before it refused.
+    Overwritten(Report),
+}
+
+impl From<Error> for Refused {
+    fn from(error: Error) -> Self {
+        Self::Left(refusal(error))
+    }
+}
+
 /// Lends the Rust a buffer of `bytes` bytes full of random bits; the divisor is that of the record.
 fn lent(
     bytes: u64,
-    fill: impl FnOnce(&mut [f64]) -> Result<()>,
-    record: impl FnOnce() -> Result<Lowpass>,
+    fill: impl FnOnce(&mut [f64]) -> core::result::Result<(), Refused>,
+    record: impl FnOnce() -> Report,
 ) -> Answer {
     if !bytes.is_multiple_of(8) {
         return Report::length(bytes - bytes % 8, bytes).into();
@@ -130,21 +156,111 @@ fn lent(
     let mut taps: Vec<f64> = words().map(f64::from_bits).collect();
     match fill(&mut taps) {
         Ok(()) => {
-            let report = recorded(record());
+            let report = record();
             assert!(
                 report.is_accepted() && report.count == count,
                 "the Rust's record and buffer disagree"
             );
-            Answer { report, taps }
+            Answer {
+                report,
+                taps,
+                ..Answer::default()
+            }
         }
-        Err(error) => {
+        Err(Refused::Left(report)) => {
             assert!(
                 taps.iter().map(|tap| tap.to_bits()).eq(words()),
                 "the Rust wrote before a refusal"
             );
-            refusal(error).into()
+            report.into()
         }
+        Err(Refused::Overwritten(report)) => report.into(),
     }
+}
+
+/// Whether an error of a half-band's is its second one, for the sum of the mirrored taps. The Rust
+/// says beta there too, so it is asked whether it takes the beta.
+fn second(error: &Error, beta: f64) -> bool {
+    matches!(error, Error::InvalidParameter { name: "beta", .. })
+        && Lowpass::new(0.25, 1.0, DesignWindow::Kaiser { beta }, 1).is_ok()
+}
+
+/// The report of a half-band's record, or of the error in its place.
+fn recorded_halfband(beta: f64, taps: u64) -> Report {
+    match Halfband::new(beta, taps as usize) {
+        Ok(halfband) => Report::accepted(taps, halfband.divisor()),
+        Err(error) if second(&error, beta) => Report::plain(10),
+        Err(error) => refusal(error),
+    }
+}
+
+/// Both of the Rust's half-bands, which must agree on every tap and on every refusal.
+fn lent_halfband(beta: f64, bytes: u64) -> Answer {
+    let record = || recorded_halfband(beta, bytes / 8);
+    let answer = lent(
+        bytes,
+        |taps| {
+            halfband_taps(beta, taps).map_err(|error| {
+                if second(&error, beta) {
+                    Refused::Overwritten(Report::plain(10))
+                } else {
+                    error.into()
+                }
+            })
+        },
+        record,
+    );
+    if answer.report.is_accepted() {
+        let halfband = Halfband::new(beta, answer.taps.len()).expect("the record was accepted");
+        for (i, tap) in answer.taps.iter().enumerate() {
+            assert!(
+                tap.to_bits() == halfband.tap(i).to_bits(),
+                "the Rust's half-bands differ at tap {i} of {} with beta {beta:?}",
+                answer.taps.len()
+            );
+        }
+    } else if answer.report.number != 8 {
+        assert!(
+            answer.report.same(&record()),
+            "the Rust's half-bands are refused in two ways"
+        );
+    }
+    answer
+}
+
+/// The report of a Gaussian pulse's record, or of the error in its place.
+fn recorded_gaussian(answer: Result<Gaussian>) -> Report {
+    answer.map_or_else(refusal, |gaussian| {
+        Report::accepted(gaussian.count() as u64, gaussian.divisor())
+    })
+}
+
+/// The report of a channelizer's estimate. The Rust says stopband for a band that is too narrow
+/// too, so it is asked whether it comes past the edges: then it refuses an attenuation of NaN.
+fn estimated(asked: &Channels, answer: Result<usize>) -> Report {
+    match answer {
+        Err(Error::InvalidParameter {
+            name: "stopband", ..
+        }) if matches!(
+            channelizer_taps(16, asked.passband, asked.stopband, f64::NAN),
+            Err(Error::OutOfRange { .. })
+        ) =>
+        {
+            Report::plain(3)
+        }
+        _ => counted(answer),
+    }
+}
+
+/// The Rust's prototype of a channelizer as a record.
+fn prototype(asked: &Channels, branch: u64) -> Result<Lowpass> {
+    Lowpass::of_channelizer(
+        asked.channels as usize,
+        branch as usize,
+        asked.passband,
+        asked.stopband,
+        asked.attenuation,
+    )
 }
 
 /// The Rust side's answer. What isn't in the Rust (the border's codes and byte lengths, the number
@@ -184,8 +300,11 @@ pub fn rust(ticket: &Ticket) -> Answer {
             None => Report::plain(7).into(),
             Some(window) => lent(
                 bytes,
-                |taps| firwin_lowpass(band.cutoff, band.rate, window, taps),
-                || Lowpass::new(band.cutoff, band.rate, window, bytes as usize / 8),
+                |taps| Ok(firwin_lowpass(band.cutoff, band.rate, window, taps)?),
+                || {
+                    let taps = bytes as usize / 8;
+                    recorded(Lowpass::new(band.cutoff, band.rate, window, taps))
+                },
             ),
         },
         Ticket::SpecNumTaps { spec } => {
@@ -199,9 +318,72 @@ pub fn rust(ticket: &Ticket) -> Answer {
         .into(),
         Ticket::SpecDesign { spec, bytes } => lent(
             bytes,
-            |taps| design_spec(&spec).design(spec.rate, spec.max_taps as usize, taps),
-            || Lowpass::of_spec(&design_spec(&spec), spec.rate, spec.max_taps as usize),
+            |taps| Ok(design_spec(&spec).design(spec.rate, spec.max_taps as usize, taps)?),
+            || {
+                let most = spec.max_taps as usize;
+                recorded(Lowpass::of_spec(&design_spec(&spec), spec.rate, most))
+            },
         ),
+        Ticket::HalfbandNew { beta, taps } => recorded_halfband(beta, taps).into(),
+        Ticket::Halfband { beta, bytes } => lent_halfband(beta, bytes),
+        Ticket::GaussianNew { pulse } => recorded_gaussian(Gaussian::new(
+            pulse.bt,
+            pulse.samples as usize,
+            pulse.span as usize,
+        ))
+        .into(),
+        Ticket::Gaussian { pulse, bytes } => {
+            let (samples, span) = (pulse.samples as usize, pulse.span as usize);
+            lent(
+                bytes,
+                |taps| Ok(gaussian(pulse.bt, samples, span, taps)?),
+                || recorded_gaussian(Gaussian::new(pulse.bt, samples, span)),
+            )
+        }
+        Ticket::ChannelizerTaps { channels } => estimated(
+            &channels,
+            channelizer_taps(
+                channels.channels as usize,
+                channels.passband,
+                channels.stopband,
+                channels.attenuation,
+            ),
+        )
+        .into(),
+        Ticket::ChannelizerTapsPerBranch { channels } => estimated(
+            &channels,
+            channelizer_taps_per_branch(
+                channels.channels as usize,
+                channels.passband,
+                channels.stopband,
+                channels.attenuation,
+            ),
+        )
+        .into(),
+        Ticket::ChannelizerLowpass { channels, branch } => {
+            recorded(prototype(&channels, branch)).into()
+        }
+        Ticket::ChannelizerPrototype {
+            channels,
+            branch,
+            bytes,
+        } => lent(
+            bytes,
+            |taps| {
+                Ok(channelizer_prototype(
+                    channels.channels as usize,
+                    branch as usize,
+                    channels.passband,
+                    channels.stopband,
+                    channels.attenuation,
+                    taps,
+                )?)
+            },
+            || recorded(prototype(&channels, branch)),
+        ),
+        Ticket::Q15FromF64 { x } => conversions::number(x).into(),
+        Ticket::Q15Tap { tap } => conversions::tap(tap).into(),
+        Ticket::ToQ15 { ref source, bytes } => conversions::converted(source, bytes),
     }
 }
 
@@ -226,5 +408,22 @@ pub fn port(ticket: &Ticket, buffer: &mut [u8]) -> Report {
         Ticket::SpecNumTaps { spec } => port::spec_num_taps(&spec),
         Ticket::SpecLowpass { spec } => port::spec_lowpass(&spec),
         Ticket::SpecDesign { spec, .. } => port::spec_design(&spec, buffer),
+        Ticket::HalfbandNew { beta, taps } => port::halfband_new(beta, taps),
+        Ticket::Halfband { beta, .. } => port::halfband(beta, buffer),
+        Ticket::GaussianNew { pulse } => port::gaussian_new(&pulse),
+        Ticket::Gaussian { pulse, .. } => port::gaussian(&pulse, buffer),
+        Ticket::ChannelizerTaps { channels } => port::channelizer_taps(&channels),
+        Ticket::ChannelizerTapsPerBranch { channels } => {
+            port::channelizer_taps_per_branch(&channels)
+        }
+        Ticket::ChannelizerLowpass { channels, branch } => {
+            port::channelizer_lowpass(&channels, branch)
+        }
+        Ticket::ChannelizerPrototype {
+            channels, branch, ..
+        } => port::channelizer_prototype(&channels, branch, buffer),
+        Ticket::Q15FromF64 { x } => Report::accepted(0, f64::from(port::q15_from_f64(x))),
+        Ticket::Q15Tap { tap } => port::q15_tap(tap),
+        Ticket::ToQ15 { ref source, .. } => conversions::port(source, buffer),
     }
 }

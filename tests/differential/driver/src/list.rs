@@ -5,14 +5,15 @@ use std::collections::HashSet;
 use crate::designers::{self, Answer};
 use crate::functions::FUNCTIONS;
 use crate::inputs;
+use crate::kinds::KINDS;
 use crate::random::Random;
 use crate::report::bits;
 use crate::ticket_inputs;
-use crate::tickets::{KINDS, Kind, Ticket};
+use crate::tickets::{Kind, Ticket};
 
 const SEED: u64 = 0x0123_4567_89AB_CDEF;
 
-/// The most taps that a line can have.
+/// The most taps, or elements of a conversion, that a line can have.
 const LINE_TAPS: usize = 32;
 
 /// The longest buffer in bytes that a line can ask for.
@@ -45,17 +46,24 @@ pub fn run(count: usize) {
     }
 }
 
+/// A Q15 number by its 16 bits, as it stands in a buffer.
+fn q15_word(number: i16) -> u64 {
+    u64::from(number as u16)
+}
+
 /// The words of a ticket's line, or nothing if it is too long: the arguments, then the answer.
 fn words(kind: Kind, ticket: &Ticket) -> Option<Vec<u64>> {
-    let Answer { report, taps } = designers::rust(ticket);
+    let Answer { report, taps, q15 } = designers::rust(ticket);
     let mut words = ticket.words();
-    if kind == Kind::KaiserBeta {
-        words.push(bits(report.value));
-    } else {
-        words.extend(report.words());
+    match kind {
+        Kind::KaiserBeta => words.push(bits(report.value)),
+        Kind::Q15FromF64 => words.push(q15_word(report.value as i16)),
+        _ => words.extend(report.words()),
     }
     words.extend(taps.iter().map(|&tap| bits(tap)));
-    (taps.len() <= LINE_TAPS && ticket.bytes() <= LINE_BYTES).then_some(words)
+    words.extend(q15.iter().map(|&number| q15_word(number)));
+    let elements = ticket.source().map_or(0, |source| source.elements.len());
+    (taps.len().max(elements) <= LINE_TAPS && ticket.bytes() <= LINE_BYTES).then_some(words)
 }
 
 /// Prints about `count` lines for each kind of tickets: telling ones, then random ones.

@@ -1,20 +1,42 @@
 //! The program that compares the port with the Rust: `compare`, `list`, `bench`.
 
 mod bench;
+mod cases;
+mod channelizer_faults;
+mod channelizer_inputs;
 mod compare;
+mod conversions;
+mod design_bench;
 mod designers;
+mod draw;
+mod exact;
 mod faults;
 mod functions;
+mod gaussian_faults;
+mod gaussian_inputs;
+mod halfband_faults;
+mod halfband_inputs;
 mod inputs;
+mod kaiser_faults;
+mod kinds;
+mod large_inputs;
+mod lent;
 mod list;
+mod lowpass_faults;
+mod lowpass_inputs;
 mod port;
+mod q15_faults;
+mod q15_inputs;
 mod random;
 mod report;
 mod smoke;
+mod spec_faults;
+mod spec_inputs;
 mod ticket_compare;
 mod ticket_faults;
 mod ticket_inputs;
 mod tickets;
+mod totals;
 
 use std::process::ExitCode;
 
@@ -37,13 +59,16 @@ fn known(words: &[String], names: &[&str]) -> bool {
         .all(|pair| pair.len() == 2 && names.contains(&pair[0].as_str()))
 }
 
-/// Puts wrong functions and designers in the port's place; true if each one was noticed.
+/// Puts wrong functions and designers in the port's place, and lists of taps that hardly keep or
+/// break a total before its check; true if each one was noticed.
 fn faults_noticed(seed: u64) -> bool {
     let (functions, of_functions) = compare::run_faults(seed);
     let (designers, of_designers) = ticket_compare::run_faults(seed);
     let (noticed, all) = (functions + designers, of_functions + of_designers);
     println!("planted faults: {noticed} of {all} noticed");
-    noticed == all
+    let (judged, lists) = totals::run_faults();
+    println!("lists of taps for the totals: {judged} of {lists} judged rightly");
+    noticed == all && judged == lists
 }
 
 /// Runs what the words ask for; nothing if they can't be understood.
@@ -52,7 +77,7 @@ fn run(words: &[String]) -> Option<bool> {
     match command.as_str() {
         "compare" if known(rest, &["--count", "--tickets", "--seed"]) => {
             let count = number(rest, "--count", 2_000_000)?;
-            let tickets = number(rest, "--tickets", 1_500_000)?;
+            let tickets = number(rest, "--tickets", 2_880_000)?;
             let seed = number(rest, "--seed", 1)?;
             let ready = smoke::run() & faults_noticed(seed);
             let functions = compare::run(count, seed);
@@ -66,7 +91,7 @@ fn run(words: &[String]) -> Option<bool> {
         }
         "bench" if rest.is_empty() => {
             bench::run();
-            bench::run_designs();
+            design_bench::run();
             Some(true)
         }
         _ => None,

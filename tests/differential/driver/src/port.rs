@@ -1,7 +1,7 @@
 //! The C functions of the port's static library, each with a safe wrapper.
 
 use crate::report::Report;
-use crate::tickets::{Band, Spec};
+use crate::tickets::{Band, Channels, Pulse, Spec};
 
 mod border {
     use crate::report::Report;
@@ -51,6 +51,47 @@ mod border {
             attenuation: f64,
             rate: f64,
             max_taps: u64,
+            out: *mut u8,
+            bytes: usize,
+        ) -> Report;
+        pub fn pel_halfband_new(beta: f64, taps: u64) -> Report;
+        pub fn pel_halfband(beta: f64, out: *mut u8, bytes: usize) -> Report;
+        pub fn pel_gaussian_new(bt: f64, samples: u64, span: u64) -> Report;
+        pub fn pel_gaussian(bt: f64, samples: u64, span: u64, out: *mut u8, bytes: usize)
+        -> Report;
+        pub fn pel_channelizer_taps(
+            channels: u64,
+            passband: f64,
+            stopband: f64,
+            attenuation: f64,
+        ) -> Report;
+        pub fn pel_channelizer_taps_per_branch(
+            channels: u64,
+            passband: f64,
+            stopband: f64,
+            attenuation: f64,
+        ) -> Report;
+        pub fn pel_channelizer_lowpass(
+            channels: u64,
+            branch: u64,
+            passband: f64,
+            stopband: f64,
+            attenuation: f64,
+        ) -> Report;
+        pub fn pel_channelizer_prototype(
+            channels: u64,
+            branch: u64,
+            passband: f64,
+            stopband: f64,
+            attenuation: f64,
+            out: *mut u8,
+            bytes: usize,
+        ) -> Report;
+        pub fn pel_q15_from_f64(x: f64) -> i16;
+        pub fn pel_q15_tap(tap: f64) -> Report;
+        pub fn pel_to_q15(
+            source: *const u8,
+            source_bytes: usize,
             out: *mut u8,
             bytes: usize,
         ) -> Report;
@@ -166,4 +207,88 @@ pub fn spec_design(spec: &Spec, out: &mut [u8]) -> Report {
             out.len(),
         )
     }
+}
+
+pub fn halfband_new(beta: f64, taps: u64) -> Report {
+    unsafe { border::pel_halfband_new(beta, taps) }
+}
+
+pub fn halfband(beta: f64, out: &mut [u8]) -> Report {
+    unsafe { border::pel_halfband(beta, out.as_mut_ptr(), out.len()) }
+}
+
+pub fn gaussian_new(pulse: &Pulse) -> Report {
+    unsafe { border::pel_gaussian_new(pulse.bt, pulse.samples, pulse.span) }
+}
+
+pub fn gaussian(pulse: &Pulse, out: &mut [u8]) -> Report {
+    unsafe {
+        border::pel_gaussian(
+            pulse.bt,
+            pulse.samples,
+            pulse.span,
+            out.as_mut_ptr(),
+            out.len(),
+        )
+    }
+}
+
+pub fn channelizer_taps(asked: &Channels) -> Report {
+    unsafe {
+        border::pel_channelizer_taps(
+            asked.channels,
+            asked.passband,
+            asked.stopband,
+            asked.attenuation,
+        )
+    }
+}
+
+pub fn channelizer_taps_per_branch(asked: &Channels) -> Report {
+    unsafe {
+        border::pel_channelizer_taps_per_branch(
+            asked.channels,
+            asked.passband,
+            asked.stopband,
+            asked.attenuation,
+        )
+    }
+}
+
+pub fn channelizer_lowpass(asked: &Channels, branch: u64) -> Report {
+    unsafe {
+        border::pel_channelizer_lowpass(
+            asked.channels,
+            branch,
+            asked.passband,
+            asked.stopband,
+            asked.attenuation,
+        )
+    }
+}
+
+pub fn channelizer_prototype(asked: &Channels, branch: u64, out: &mut [u8]) -> Report {
+    unsafe {
+        border::pel_channelizer_prototype(
+            asked.channels,
+            branch,
+            asked.passband,
+            asked.stopband,
+            asked.attenuation,
+            out.as_mut_ptr(),
+            out.len(),
+        )
+    }
+}
+
+pub fn q15_from_f64(x: f64) -> i16 {
+    unsafe { border::pel_q15_from_f64(x) }
+}
+
+pub fn q15_tap(tap: f64) -> Report {
+    unsafe { border::pel_q15_tap(tap) }
+}
+
+pub fn to_q15(source: &[u8], out: &mut [u8]) -> Report {
+    unsafe { border::pel_to_q15(source.as_ptr(), source.len(), out.as_mut_ptr(), out.len()) }
 }

@@ -77,6 +77,15 @@ impl Report {
         }
     }
 
+    /// The element at an index isn't within a range.
+    pub fn element(index: u64, smallest: f64, largest: f64, offered: f64) -> Self {
+        Self {
+            carries: 4,
+            index,
+            ..Self::range(11, smallest, largest, offered)
+        }
+    }
+
     pub fn is_accepted(&self) -> bool {
         self.number == 0
     }

@@ -6,7 +6,7 @@ use sdrk_core::kernels::channelize::{MAX_CHANNELS, MIN_CHANNELS};
 use sdrk_core::window::bessel_i0;
 
 use crate::designers::rust;
-use crate::tickets::{Band, Spec, Ticket};
+use crate::tickets::{Band, Channels, Pulse, Source, Spec, Ticket};
 
 /// Prints one line; true if every answer is the one expected.
 pub fn run() -> bool {
@@ -28,6 +28,27 @@ pub fn run() -> bool {
         };
         rust(&Ticket::LowpassNew { band, taps }).report
     };
+    let channels = Channels {
+        channels: 16,
+        passband: 0.5,
+        stopband: 1.0,
+        attenuation: 60.0,
+    };
+    let twelve = Channels {
+        channels: 12,
+        ..channels
+    };
+    let pulse = Pulse {
+        bt: 0.5,
+        samples: 8,
+        span: 4,
+    };
+    let q15 = |tap| rust(&Ticket::Q15Tap { tap }).report;
+    let source = Source {
+        elements: vec![1.0, -1.0, 1.01],
+        rest: 0,
+    };
+    let converted = rust(&Ticket::ToQ15 { source, bytes: 6 });
     let answers = [
         bessel_i0(0.0) == 1.0,
         kaiserord(8.0, 1.0, 1.0) == Ok((3, 0.0)),
@@ -43,6 +64,24 @@ pub fn run() -> bool {
         spec(-8000.0).number == 1,
         hann(0.25, 2).number == 10,
         hann(0.5, 2).number == 2,
+        rust(&Ticket::HalfbandNew { beta: 8.0, taps: 5 })
+            .report
+            .number
+            == 6,
+        rust(&Ticket::GaussianNew { pulse }).report.count == 33,
+        rust(&Ticket::ChannelizerTaps { channels }).report.count == 118,
+        rust(&Ticket::ChannelizerTapsPerBranch { channels })
+            .report
+            .count
+            == 8,
+        rust(&Ticket::ChannelizerTaps { channels: twelve })
+            .report
+            .number
+            == 6,
+        [q15(1.0).value, q15(-1.0).value] == [32767.0, -32768.0],
+        [q15(1.0 / 65536.0).value, q15(-1.0 / 65536.0).value] == [1.0, 0.0],
+        [q15(1.01).number, q15(f64::NAN).number] == [11, 11],
+        converted.report.index == 2 && converted.q15 == [32767, -32768],
     ];
     let right = answers.iter().filter(|&&answer| answer).count();
     println!("the Rust files: {right} of {} known answers", answers.len());

@@ -3,20 +3,22 @@
 use std::collections::BTreeMap;
 
 use crate::designers::{self, Answer};
+use crate::kinds::{About, KINDS, SHARES};
+use crate::large_inputs;
+use crate::lent::Lent;
+use crate::port;
 use crate::random::Random;
 use crate::report::{CARRIES, Report};
 use crate::ticket_faults::FAULTS;
 use crate::ticket_inputs;
-use crate::tickets::{About, KINDS, Ticket};
+use crate::tickets::{Kind, Ticket};
+use crate::totals::Totals;
 
 /// How many differing tickets are shown for each kind.
 const SHOWN: u64 = 8;
 
 /// How many random tickets a planted fault gets at most.
 const FAULT_COUNT: u64 = 40_000;
-
-/// The bytes before and after a lent buffer, which nobody may write.
-const GUARD: usize = 16;
 
 /// One side of the comparison: the report, and the buffer written or left.
 pub type Side = fn(&Ticket, &mut [u8]) -> Report;
@@ -26,53 +28,19 @@ fn carried(carries: u32) -> &'static str {
     CARRIES[carries as usize]
 }
 
-/// A buffer full of random bytes, between guards and at any alignment.
-struct Lent {
-    bytes: Vec<u8>,
-    start: usize,
-    end: usize,
-    seed: u64,
+/// Whether the buffer begins with what the Rust wrote, and is otherwise as it came.
+fn holds(buffer: &Lent, answer: &Answer) -> bool {
+    if answer.q15.is_empty() {
+        buffer.begins(answer.taps.iter().map(|tap| tap.to_le_bytes()))
+    } else {
+        buffer.begins(answer.q15.iter().map(|number| number.to_le_bytes()))
+    }
 }
 
-impl Lent {
-    fn new(length: u64, seed: u64) -> Self {
-        let start = GUARD + (seed % 8) as usize;
-        let end = start + length as usize;
-        let mut bytes = vec![0; (end + GUARD).next_multiple_of(8)];
-        let mut random = Random::new(seed);
-        for word in bytes.chunks_exact_mut(8) {
-            word.copy_from_slice(&random.bits().to_le_bytes());
-        }
-        Self {
-            bytes,
-            start,
-            end,
-            seed,
-        }
-    }
-
-    fn part(&mut self) -> &mut [u8] {
-        &mut self.bytes[self.start..self.end]
-    }
-
-    /// Whether all bytes but those from `start` to before `end` are as they came.
-    fn as_they_came(&self, start: usize, end: usize) -> bool {
-        let mut random = Random::new(self.seed);
-        self.bytes.chunks_exact(8).enumerate().all(|(i, word)| {
-            let came = random.bits().to_le_bytes();
-            (0..8).all(|j| (start..end).contains(&(8 * i + j)) || word[j] == came[j])
-        })
-    }
-
-    /// Whether the buffer holds the taps, and its other bytes and the guards are as they came.
-    fn holds(&self, taps: &[f64]) -> bool {
-        let end = self.start + 8 * taps.len();
-        self.as_they_came(self.start, end)
-            && self.bytes[self.start..end]
-                .chunks_exact(8)
-                .zip(taps)
-                .all(|(bytes, tap)| bytes == tap.to_le_bytes())
-    }
+/// The port's Q15 number of a tap, unless it is refused.
+fn port_q15(tap: f64) -> Option<i64> {
+    let report = port::q15_tap(tap);
+    report.is_accepted().then_some(report.value as i64)
 }
 
 /// What the comparison of one kind has counted so far.
@@ -85,6 +53,8 @@ struct Tally {
     refused: BTreeMap<(u32, u32), u64>,
     /// Whether each of the kind's cases was met.
     cases: Vec<bool>,
+    /// What the taps that both sides have by bits add up to.
+    totals: Totals,
 }
 
 impl Tally {
@@ -96,7 +66,8 @@ impl Tally {
     }
 
     fn compare(&mut self, about: &About, ticket: &Ticket, side: Side, shown: u64) {
-        let Answer { report, taps } = designers::rust(ticket);
+        let answer = designers::rust(ticket);
+        let report = answer.report;
         let mut buffer = Lent::new(ticket.bytes(), self.compared);
         let other = side(ticket, buffer.part());
         self.compared += 1;
@@ -112,7 +83,19 @@ impl Tally {
             *met = *met || (case.met)(ticket, &report);
         }
         let same = report.same(&other);
-        if same && buffer.holds(&taps) {
+        if same && holds(&buffer, &answer) {
+            // A planted fault is noticed by its bits alone, so nothing is shown and added up there.
+            if shown > 0 && !answer.taps.is_empty() {
+                let halfband = about.kind == Kind::Halfband;
+                let broken = self
+                    .totals
+                    .check(halfband, report.value, &answer.taps, port_q15);
+                if let Some(what) = broken
+                    && self.totals.broken <= shown
+                {
+                    println!("  {ticket:?}\n    breaks {what}");
+                }
+            }
             return;
         }
         self.differ += 1;
@@ -209,7 +192,7 @@ fn notices(about: &About, wrong: Side, seed: u64) -> bool {
 /// Puts wrong designers in the port's place; how many were noticed, and of how many.
 pub fn run_faults(seed: u64) -> (usize, usize) {
     let mut noticed = 0;
-    for fault in FAULTS {
+    for fault in FAULTS.iter().copied().flatten() {
         let about = KINDS.iter().find(|about| about.kind == fault.kind);
         let about = about.expect("every kind is in the table");
         if notices(about, fault.wrong, seed) {
@@ -218,7 +201,7 @@ pub fn run_faults(seed: u64) -> (usize, usize) {
             println!("  not noticed: {} with {}", about.name, fault.what);
         }
     }
-    (noticed, FAULTS.len())
+    (noticed, FAULTS.iter().map(|faults| faults.len()).sum())
 }
 
 /// Compares about `count` tickets over all kinds, then the large ones; true if none differs and
@@ -231,7 +214,7 @@ pub fn run(count: u64, seed: u64) -> bool {
         for ticket in ticket_inputs::telling(about.kind) {
             tally.compare(about, &ticket, designers::port, SHOWN);
         }
-        while tally.compared < count * about.share / 100 {
+        while tally.compared < count * about.share / SHARES {
             let ticket = ticket_inputs::draw(about.kind, &mut random);
             tally.compare(about, &ticket, designers::port, SHOWN);
         }
@@ -239,7 +222,7 @@ pub fn run(count: u64, seed: u64) -> bool {
         tallies.push(tally);
     }
     let mut all = Tally::default();
-    let large = ticket_inputs::large();
+    let large = large_inputs::large();
     for (i, (kind, ticket)) in large.iter().enumerate() {
         for (about, tally) in KINDS.iter().zip(&mut tallies) {
             if about.kind == *kind {
@@ -257,6 +240,7 @@ pub fn run(count: u64, seed: u64) -> bool {
                 for (met, now) in tally.cases.iter_mut().zip(one.cases) {
                     *met |= now;
                 }
+                tally.totals.add(&one.totals);
             }
         }
     }
@@ -265,6 +249,10 @@ pub fn run(count: u64, seed: u64) -> bool {
     for (about, tally) in KINDS.iter().zip(&tallies) {
         equal &= tally.differ == 0;
         equal &= tally.complete(about);
+        if about.totals {
+            tally.totals.print(about.name);
+            equal &= tally.totals.kept();
+        }
     }
     equal
 }

@@ -1,6 +1,9 @@
 //! The tickets that the designers are asked with, and the kinds they come in.
 
-use crate::report::{Report, bits};
+use crate::report::bits;
+
+/// The largest count of `kaiserord`: 2^24 made odd.
+pub const LARGEST_COUNT: u64 = (1 << 24) + 1;
 
 /// What a low-pass is asked for, without its length.
 #[derive(Clone, Copy, Debug)]
@@ -22,8 +25,32 @@ pub struct Spec {
     pub max_taps: u64,
 }
 
-/// One question to a designer, in the argument order of its C function.
+/// What a Gaussian pulse is asked for.
 #[derive(Clone, Copy, Debug)]
+pub struct Pulse {
+    pub bt: f64,
+    pub samples: u64,
+    pub span: u64,
+}
+
+/// What a channelizer is asked for, without the taps of a branch.
+#[derive(Clone, Copy, Debug)]
+pub struct Channels {
+    pub channels: u64,
+    pub passband: f64,
+    pub stopband: f64,
+    pub attenuation: f64,
+}
+
+/// The elements of a conversion, and how many bytes of another one follow them.
+#[derive(Clone, Debug)]
+pub struct Source {
+    pub elements: Vec<f64>,
+    pub rest: u64,
+}
+
+/// One question to a designer, in the argument order of its C function.
+#[derive(Clone, Debug)]
 pub enum Ticket {
     BesselI0 {
         x: f64,
@@ -62,6 +89,46 @@ pub enum Ticket {
         spec: Spec,
         bytes: u64,
     },
+    HalfbandNew {
+        beta: f64,
+        taps: u64,
+    },
+    Halfband {
+        beta: f64,
+        bytes: u64,
+    },
+    GaussianNew {
+        pulse: Pulse,
+    },
+    Gaussian {
+        pulse: Pulse,
+        bytes: u64,
+    },
+    ChannelizerTaps {
+        channels: Channels,
+    },
+    ChannelizerTapsPerBranch {
+        channels: Channels,
+    },
+    ChannelizerLowpass {
+        channels: Channels,
+        branch: u64,
+    },
+    ChannelizerPrototype {
+        channels: Channels,
+        branch: u64,
+        bytes: u64,
+    },
+    Q15FromF64 {
+        x: f64,
+    },
+    Q15Tap {
+        tap: f64,
+    },
+    ToQ15 {
+        source: Source,
+        bytes: u64,
+    },
 }
 
 impl Band {
@@ -87,15 +154,42 @@ impl Spec {
     }
 }
 
+impl Pulse {
+    fn words(&self) -> Vec<u64> {
+        vec![bits(self.bt), self.samples, self.span]
+    }
+}
+
+impl Channels {
+    fn words(&self, branch: Option<u64>) -> Vec<u64> {
+        let mut words = vec![self.channels];
+        words.extend(branch);
+        words.extend([
+            bits(self.passband),
+            bits(self.stopband),
+            bits(self.attenuation),
+        ]);
+        words
+    }
+}
+
+impl Source {
+    /// The length in bytes.
+    pub fn length(&self) -> u64 {
+        8 * self.elements.len() as u64 + self.rest
+    }
+}
+
 impl Ticket {
-    /// The arguments in their order, numbers by their bits, a buffer by its length in bytes.
+    /// The arguments in their order, numbers by their bits, a buffer by its length in bytes. A
+    /// conversion has its elements last, so that each argument before them has a fixed place.
     pub fn words(&self) -> Vec<u64> {
         let and = |mut words: Vec<u64>, last: u64| {
             words.push(last);
             words
         };
         match *self {
-            Self::BesselI0 { x } => vec![bits(x)],
+            Self::BesselI0 { x } | Self::Q15FromF64 { x } => vec![bits(x)],
             Self::KaiserBeta { attenuation } => vec![bits(attenuation)],
             Self::Kaiserord {
                 ripple,
@@ -112,6 +206,25 @@ impl Ticket {
             Self::Lowpass { band, bytes } => and(band.words(), bytes),
             Self::SpecNumTaps { spec } | Self::SpecLowpass { spec } => spec.words(),
             Self::SpecDesign { spec, bytes } => and(spec.words(), bytes),
+            Self::HalfbandNew { beta, taps } => vec![bits(beta), taps],
+            Self::Halfband { beta, bytes } => vec![bits(beta), bytes],
+            Self::GaussianNew { pulse } => pulse.words(),
+            Self::Gaussian { pulse, bytes } => and(pulse.words(), bytes),
+            Self::ChannelizerTaps { channels } | Self::ChannelizerTapsPerBranch { channels } => {
+                channels.words(None)
+            }
+            Self::ChannelizerLowpass { channels, branch } => channels.words(Some(branch)),
+            Self::ChannelizerPrototype {
+                channels,
+                branch,
+                bytes,
+            } => and(channels.words(Some(branch)), bytes),
+            Self::Q15Tap { tap } => vec![bits(tap)],
+            Self::ToQ15 { ref source, bytes } => {
+                let mut words = vec![bytes, source.length()];
+                words.extend(source.elements.iter().map(|&x| bits(x)));
+                words
+            }
         }
     }
 
@@ -133,10 +246,61 @@ impl Ticket {
         }
     }
 
+    /// What a half-band is asked for: the beta and the number of whole taps.
+    pub fn halfband(&self) -> Option<(f64, u64)> {
+        match *self {
+            Self::HalfbandNew { beta, taps } => Some((beta, taps)),
+            Self::Halfband { beta, bytes } => Some((beta, bytes / 8)),
+            _ => None,
+        }
+    }
+
+    /// What a Gaussian pulse is asked for.
+    pub fn pulse(&self) -> Option<Pulse> {
+        match *self {
+            Self::GaussianNew { pulse } | Self::Gaussian { pulse, .. } => Some(pulse),
+            _ => None,
+        }
+    }
+
+    /// What a channelizer is asked for.
+    pub fn channels(&self) -> Option<Channels> {
+        match *self {
+            Self::ChannelizerTaps { channels }
+            | Self::ChannelizerTapsPerBranch { channels }
+            | Self::ChannelizerLowpass { channels, .. }
+            | Self::ChannelizerPrototype { channels, .. } => Some(channels),
+            _ => None,
+        }
+    }
+
+    /// The taps of a branch that a channelizer is asked for.
+    pub fn branch(&self) -> Option<u64> {
+        match *self {
+            Self::ChannelizerLowpass { branch, .. } | Self::ChannelizerPrototype { branch, .. } => {
+                Some(branch)
+            }
+            _ => None,
+        }
+    }
+
+    /// What a conversion is given.
+    pub fn source(&self) -> Option<&Source> {
+        match self {
+            Self::ToQ15 { source, .. } => Some(source),
+            _ => None,
+        }
+    }
+
     /// The length in bytes of the buffer that the ticket comes with.
     pub fn bytes(&self) -> u64 {
         match *self {
-            Self::Lowpass { bytes, .. } | Self::SpecDesign { bytes, .. } => bytes,
+            Self::Lowpass { bytes, .. }
+            | Self::SpecDesign { bytes, .. }
+            | Self::Halfband { bytes, .. }
+            | Self::Gaussian { bytes, .. }
+            | Self::ChannelizerPrototype { bytes, .. }
+            | Self::ToQ15 { bytes, .. } => bytes,
             _ => 0,
         }
     }
@@ -155,263 +319,15 @@ pub enum Kind {
     SpecNumTaps,
     SpecLowpass,
     SpecDesign,
+    HalfbandNew,
+    Halfband,
+    GaussianNew,
+    Gaussian,
+    ChannelizerTaps,
+    ChannelizerTapsPerBranch,
+    ChannelizerLowpass,
+    ChannelizerPrototype,
+    Q15FromF64,
+    Q15Tap,
+    ToQ15,
 }
-
-/// A case that a run must meet, told by the ticket and the Rust side's report.
-pub struct Case {
-    pub what: &'static str,
-    pub met: fn(&Ticket, &Report) -> bool,
-}
-
-/// What a run has to know of a kind.
-pub struct About {
-    pub kind: Kind,
-    pub name: &'static str,
-    /// The number that names it in the list.
-    pub number: u8,
-    /// How many of 100 tickets are of this kind.
-    pub share: u64,
-    /// Every refusal that the kind can give: its number and what it carries.
-    pub refusals: &'static [(u32, u32)],
-    pub cases: &'static [Case],
-}
-
-const PLAIN: u32 = 0;
-const RANGE: u32 = 1;
-const LENGTH: u32 = 2;
-const CAP: u32 = 3;
-
-/// The largest count of `kaiserord`: 2^24 made odd.
-pub const LARGEST_COUNT: u64 = (1 << 24) + 1;
-
-macro_rules! case {
-    ($what:literal, $met:expr) => {
-        Case {
-            what: $what,
-            met: $met,
-        }
-    };
-}
-
-/// Whether the ticket is a spec's for which that holds.
-fn of_spec(ticket: &Ticket, holds: impl FnOnce(Spec) -> bool) -> bool {
-    ticket.spec().is_some_and(holds)
-}
-
-const WIDTH_TOO_LARGE: Case = case!("3 plain by a width too large", |ticket, report| {
-    (report.number, report.carries) == (3, PLAIN) && of_spec(ticket, |spec| spec.transition > 1.0)
-});
-
-const WIDTH_TOO_SMALL: Case = case!("3 plain by a width too small", |ticket, report| {
-    (report.number, report.carries) == (3, PLAIN) && of_spec(ticket, |spec| spec.transition < 1.0)
-});
-
-const OF_HALF_THE_RATE: Case = case!("3 with half the rate", |ticket, report| {
-    (report.number, report.carries) == (3, RANGE)
-        && of_spec(ticket, |spec| report.largest == spec.rate / 2.0)
-});
-
-const OF_THE_RATE: Case = case!("3 with the whole rate", |ticket, report| {
-    (report.number, report.carries) == (3, RANGE)
-        && of_spec(ticket, |spec| report.largest == spec.rate)
-});
-
-const QUOTIENT_LOST: Case = case!("2 by a quotient that underflows", |ticket, report| {
-    report.number == 2
-        && of_spec(ticket, |spec| {
-            let largest = spec.rate / 2.0 - spec.transition / 2.0;
-            spec.cutoff > 0.0 && spec.cutoff <= largest
-        })
-});
-
-pub const KINDS: [About; 10] = [
-    About {
-        kind: Kind::BesselI0,
-        name: "bessel_i0",
-        number: 11,
-        share: 8,
-        refusals: &[],
-        cases: &[
-            case!("one term", |_, report| report.count == 1),
-            case!("500 terms", |_, report| report.count == 500),
-            case!("an infinite sum", |_, report| report.value.is_infinite()),
-            case!("a NaN", |_, report| report.value.is_nan()),
-        ],
-    },
-    About {
-        kind: Kind::KaiserBeta,
-        name: "kaiser_beta",
-        number: 12,
-        share: 8,
-        refusals: &[],
-        cases: &[
-            case!("0", |_, report| report.value == 0.0),
-            case!("an infinite beta", |_, report| report.value.is_infinite()),
-            case!("from 21 to 50", |_, report| report.value > 0.0
-                && report.value < 4.5),
-            case!("above 50", |_, report| report.value > 4.6),
-        ],
-    },
-    About {
-        kind: Kind::Kaiserord,
-        name: "kaiserord",
-        number: 13,
-        share: 12,
-        refusals: &[(3, PLAIN), (3, RANGE), (4, PLAIN)],
-        cases: &[
-            case!("one tap", |_, report| report.count == 1),
-            case!("16777217 taps", |_, report| report.count == LARGEST_COUNT),
-            case!("two negative signs accepted", |ticket, report| {
-                matches!(ticket, Ticket::Kaiserord { rate, .. } if *rate < 0.0)
-                    && report.is_accepted()
-            }),
-            case!("a negative largest value", |_, report| report.largest < 0.0),
-        ],
-    },
-    About {
-        kind: Kind::HalfbandLen,
-        name: "halfband_len",
-        number: 14,
-        share: 8,
-        refusals: &[(3, PLAIN), (3, RANGE), (4, PLAIN)],
-        cases: &[
-            case!("3 taps", |_, report| report.count == 3),
-            case!("16777219 taps", |_, report| report.count
-                == LARGEST_COUNT + 2),
-        ],
-    },
-    About {
-        kind: Kind::Delay,
-        name: "delay",
-        number: 15,
-        share: 4,
-        refusals: &[(6, PLAIN)],
-        cases: &[case!("the largest count", |_, report| report.count
-            == u64::MAX / 2)],
-    },
-    About {
-        kind: Kind::LowpassNew,
-        name: "lowpass_new",
-        number: 16,
-        share: 12,
-        refusals: &[
-            (1, PLAIN),
-            (2, RANGE),
-            (4, PLAIN),
-            (6, PLAIN),
-            (7, PLAIN),
-            (10, PLAIN),
-        ],
-        cases: &[
-            case!("a negative divisor", |_, report| report.value < 0.0),
-            case!("4 at 16777216 taps", |ticket, report| {
-                matches!(
-                    ticket,
-                    Ticket::LowpassNew {
-                        taps: 0x100_0000,
-                        ..
-                    }
-                ) && report.number == 4
-            }),
-        ],
-    },
-    About {
-        kind: Kind::Lowpass,
-        name: "lowpass",
-        number: 17,
-        share: 20,
-        refusals: &[
-            (1, PLAIN),
-            (2, RANGE),
-            (4, PLAIN),
-            (6, PLAIN),
-            (7, PLAIN),
-            (8, LENGTH),
-            (10, PLAIN),
-        ],
-        cases: &[
-            case!("a negative divisor", |_, report| report.value < 0.0),
-            case!("a NaN beta ignored", |ticket, report| {
-                matches!(ticket, Ticket::Lowpass { band, .. } if band.beta.is_nan())
-                    && report.is_accepted()
-            }),
-            case!("6 at 16777217 taps", |ticket, report| {
-                ticket.bytes() == 8 * LARGEST_COUNT && report.number == 6
-            }),
-        ],
-    },
-    About {
-        kind: Kind::SpecNumTaps,
-        name: "spec_num_taps",
-        number: 18,
-        share: 10,
-        refusals: &[
-            (1, PLAIN),
-            (2, RANGE),
-            (3, PLAIN),
-            (3, RANGE),
-            (4, PLAIN),
-            (9, CAP),
-        ],
-        cases: &[
-            WIDTH_TOO_LARGE,
-            WIDTH_TOO_SMALL,
-            OF_HALF_THE_RATE,
-            OF_THE_RATE,
-            case!("16777217 taps", |_, report| report.count == LARGEST_COUNT),
-        ],
-    },
-    About {
-        kind: Kind::SpecLowpass,
-        name: "spec_lowpass",
-        number: 19,
-        share: 8,
-        refusals: &[
-            (1, PLAIN),
-            (2, RANGE),
-            (3, PLAIN),
-            (3, RANGE),
-            (4, PLAIN),
-            (6, PLAIN),
-            (9, CAP),
-            (10, PLAIN),
-        ],
-        cases: &[
-            WIDTH_TOO_LARGE,
-            WIDTH_TOO_SMALL,
-            OF_HALF_THE_RATE,
-            OF_THE_RATE,
-            QUOTIENT_LOST,
-        ],
-    },
-    About {
-        kind: Kind::SpecDesign,
-        name: "spec_design",
-        number: 20,
-        share: 10,
-        refusals: &[
-            (1, PLAIN),
-            (2, RANGE),
-            (3, PLAIN),
-            (3, RANGE),
-            (4, PLAIN),
-            (6, PLAIN),
-            (8, LENGTH),
-            (9, CAP),
-            (10, PLAIN),
-        ],
-        cases: &[
-            WIDTH_TOO_LARGE,
-            WIDTH_TOO_SMALL,
-            OF_HALF_THE_RATE,
-            OF_THE_RATE,
-            QUOTIENT_LOST,
-            case!("8 in bytes", |ticket, report| {
-                report.number == 8 && report.given == ticket.bytes() && ticket.bytes() % 8 != 0
-            }),
-            case!("8 in elements", |ticket, report| {
-                report.number == 8 && report.given == ticket.bytes() / 8 && report.given > 0
-            }),
-        ],
-    },
-];

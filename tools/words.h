@@ -1,0 +1,45 @@
+/* The words of a command line as a ticket: options by name, each at most once, in any order. */
+#ifndef WORDS_H
+#define WORDS_H
+
+#include <stdint.h>
+
+/* A set of options is a sum of these. */
+enum {
+    CUTOFF = 1 << 0,
+    RATE = 1 << 1,
+    TRANSITION = 1 << 2,
+    ATTENUATION = 1 << 3,
+    BETA = 1 << 4,
+    TAPS = 1 << 5,
+    MAX_TAPS = 1 << 6,
+    WINDOW = 1 << 7,
+    BT = 1 << 8,
+    SAMPLES = 1 << 9,
+    SPAN = 1 << 10,
+    CHANNELS = 1 << 11,
+    BRANCH = 1 << 12,
+    PASSBAND = 1 << 13,
+    STOPBAND = 1 << 14,
+    Q15 = 1 << 15
+};
+
+/* What the options said; a value counts where its bit is in `given`, and is the caller's default elsewhere. */
+struct ticket {
+    double cutoff, rate, transition, attenuation, beta, bt, passband, stopband;
+    uint64_t taps, max_taps, window, samples, span, channels, branch;
+    unsigned given;
+};
+
+/* What is wrong, and with which word; `what` is null where nothing is. */
+struct complaint {
+    const char *what, *word;
+};
+
+/* Takes the options apart; those outside `allowed` are unknown words. */
+struct complaint take_words(int n, char **word, unsigned allowed, struct ticket *t);
+
+/* The name of the first option of a set, null for the empty set. */
+const char *first_option(unsigned set);
+
+#endif
