@@ -2,7 +2,7 @@
 use mathlib.Core.Path.{_≡_, refl, sym, ap, _∙_}
 use mathlib.Core.List.{List, [], _∷_, _++_}
 use Prim.Native.Nat.{ℕ, zero, suc, _+_, _*_, _/_, _%_, _^_, _≤_, _<_}
-use native.Mathlib.Nat.{lt-of-lt-of-le, le-of-eq, pow-suc, div-lt-iff-lt-mul, not-suc-le-zero}
+use native.Mathlib.Nat.{lt-of-lt-of-le, le-of-eq, pow-suc, div-lt-iff-lt-mul, not-suc-le-zero, mul-suc, mul-le-mul-left}
 use native.Mathlib.Omega.{arith}
 use borrow.Author.Tests.{le-leb, lt-leb}
 use lib.Dec.{T, lit≤}
@@ -36,35 +36,37 @@ pub float-bytes : (x : Float) → T (fits binary64 x) → floatOf (floatBytes x)
 float-bytes x t = ap (λ (z : ℕ). ofBits binary64 z) (number-bytes 8 (toBits binary64 x) (lt-of-lt-of-le (toBits-lt binary64 x t) (lit≤ tt))) ∙ ofBits-toBits binary64 x t
 
 -- ---- a buffer
-module _ (g : ℕ → List ℕ) (width : (i : ℕ) → length (g i) ≡ 8) where
+module _ (w : ℕ) (g : ℕ → List ℕ) (width : (i : ℕ) → length (g i) ≡ w) where
   -- chunk i of n
-  pub chunk-at : (n i : ℕ) → i < n → take 8 (drop (8 * i) (chunks n g)) ≡ g i
+  pub chunk-at : (n i : ℕ) → i < n → take w (drop (w * i) (chunks n g)) ≡ g i
   unfolding chunks
   chunk-at zero i h = absurd (not-suc-le-zero h)
   chunk-at (suc n) i h = either (lt-or-le i n) (λ l. before l (chunk-at n i l)) (λ l. here l)
     where
-      len : length (chunks n g) ≡ 8 * n
-      len = length-chunks 8 g width n
+      len : length (chunks n g) ≡ w * n
+      len = length-chunks w g width n
 
-      before : i < n → take 8 (drop (8 * i) (chunks n g)) ≡ g i → take 8 (drop (8 * i) (chunks n g ++ g n)) ≡ g i
+      before : i < n → take w (drop (w * i) (chunks n g)) ≡ g i → take w (drop (w * i) (chunks n g ++ g n)) ≡ g i
       before l e =
-          ap (take 8) (drop-append-le (8 * i) (chunks n g) (g n) (omega (arith, len)))
-          ∙ take-append-le 8 (drop (8 * i) (chunks n g)) (g n) (omega (arith, len, length-drop (8 * i) (chunks n g)))
+          let m : w * suc i ≤ w * n = mul-le-mul-left w l in
+          let s : w * suc i ≡ w * i + w = mul-suc w i in
+          ap (take w) (drop-append-le (w * i) (chunks n g) (g n) (omega (arith, len, m, s)))
+          ∙ take-append-le w (drop (w * i) (chunks n g)) (g n) (omega (arith, len, m, s, length-drop (w * i) (chunks n g)))
           ∙ e
 
-      here : n ≤ i → take 8 (drop (8 * i) (chunks n g ++ g n)) ≡ g i
+      here : n ≤ i → take w (drop (w * i) (chunks n g ++ g n)) ≡ g i
       here l =
           let e : i ≡ n = omega arith in
-          ap (λ (j : ℕ). take 8 (drop (8 * j) (chunks n g ++ g n))) e
-          ∙ ap (take 8) (drop-at (chunks n g) (g n) (8 * n) len)
-          ∙ take-all 8 (g n) (le-of-eq (width n))
+          ap (λ (j : ℕ). take w (drop (w * j) (chunks n g ++ g n))) e
+          ∙ ap (take w) (drop-at (chunks n g) (g n) (w * n) len)
+          ∙ take-all w (g n) (le-of-eq (width n))
           ∙ ap g (sym e)
 
 -- what is read of n f64s that were written
 pub floats-back : (n : ℕ) (t : ℕ → Float) → ((i : ℕ) → T (fits binary64 (t i))) → floatsIn n (chunks n (λ i. floatBytes (t i))) ≡ tabulate n t
 floats-back n t f =
     tabulate-below n (λ i. floatOf (take 8 (drop (8 * i) (chunks n (λ i. floatBytes (t i)))))) t
-    (λ i h. ap floatOf (chunk-at (λ i. floatBytes (t i)) (λ i. length-bytes 8 (toBits binary64 (t i))) n i h) ∙ float-bytes (t i) (f i))
+    (λ i h. ap floatOf (chunk-at 8 (λ i. floatBytes (t i)) (λ i. length-bytes 8 (toBits binary64 (t i))) n i h) ∙ float-bytes (t i) (f i))
 
 -- ---- eight bytes one by one
 next : (d : List ℕ) (at k n : ℕ) → at < length d → n ≡ suc at → numberOf (take (suc k) (drop at d)) ≡ getD d at 0 + 256 * numberOf (take k (drop n d))

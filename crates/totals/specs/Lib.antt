@@ -5,3 +5,4 @@ pub mod Sound
 pub mod Written
 pub mod Mirror
 pub mod Met
+pub mod Chain

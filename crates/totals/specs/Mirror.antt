@@ -59,7 +59,7 @@ Vanishes r after = r .number ≡ 0 → (i : ℕ) → i < r .count → distance (
 
 -- ---- of any outcome
 tap-bytes : (n : ℕ) (tap : ℕ → Float) (i : ℕ) → i < n → take 8 (drop (8 * i) (chunks n (λ i. floatBytes (tap i)))) ≡ floatBytes (tap i)
-tap-bytes n tap i h = chunk-at (λ i. floatBytes (tap i)) (λ i. length-bytes 8 (toBits binary64 (tap i))) n i h
+tap-bytes n tap i h = chunk-at 8 (λ i. floatBytes (tap i)) (λ i. length-bytes 8 (toBits binary64 (tap i))) n i h
 
 symmetric-mirrored : (o : Outcome) (before : List ℕ) → Sound o → WhereMade o → Mirrored (outcomeReport o) (written o before)
 unfolding acceptedOf
