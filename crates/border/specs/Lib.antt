@@ -4,7 +4,7 @@ pub mod Taps
 pub mod Sources
 pub mod Lowpass
 pub mod Spec
-pub mod More
+pub mod Buffers
 pub mod Q15
 pub mod Q15Laws
 pub mod Counts

@@ -10,7 +10,7 @@ ghost use lib.ListN.{length};
 ghost use Rattle.halfband.specs.Halfband.{halfbandOf, outcomeOf};
 ghost use Rattle.border.specs.Reports.{outcomeReport};
 ghost use Rattle.border.specs.Taps.{Writes};
-ghost use Rattle.border.specs.More.{halfbandBytes};
+ghost use Rattle.border.specs.Buffers.{halfbandBytes};
 
 // Judges a half-band of so many taps with Kaiser's window: their number as the count, the sum that they are divided by last as the value. Refused, in this order: 6 where the taps aren't 3 over a multiple of 4, or are more than 2^24; 4 a beta that isn't finite and not negative; 10 a sum that is 0 or not finite. Example: 5 taps are refused with 6.
 #[no_mangle]

@@ -11,7 +11,7 @@ ghost use Rattle.fir.specs.Lowpass.{outcomeOf};
 ghost use Rattle.channelizer.specs.Channelizer.{channelizerTapsOf, branchOf, channelizerLowpassOf};
 ghost use Rattle.border.specs.Reports.{lengthReport, outcomeReport};
 ghost use Rattle.border.specs.Taps.{Writes};
-ghost use Rattle.border.specs.More.{channelizerBytes};
+ghost use Rattle.border.specs.Buffers.{channelizerBytes};
 
 // How many taps Kaiser's estimate has for band edges in channel spacings and an attenuation in dB, as the count; not made odd. Refused, in this order: 6 channels that aren't a power of two from 4 to 256; 2 a passband that isn't finite and positive; 2 a stopband that isn't above it and at most 1.5; 4 with 20, 120, attenuation; 3 where the estimate isn't finite or is above 2^24. Example: (16, 0.5, 1, 60) has 118 taps.
 #[no_mangle]

@@ -10,7 +10,7 @@ ghost use lib.ListN.{length};
 ghost use Rattle.pulses.specs.Gaussian.{gaussianOf, outcomeOf};
 ghost use Rattle.border.specs.Reports.{outcomeReport};
 ghost use Rattle.border.specs.Taps.{Writes};
-ghost use Rattle.border.specs.More.{gaussianBytes};
+ghost use Rattle.border.specs.Buffers.{gaussianBytes};
 
 // Judges a Gaussian pulse of bandwidth bt, so many samples a symbol and a span of so many symbols: samples · span + 1 taps as the count, the sum that they are divided by as the value. Refused, in this order: 5 with 0.2, 1, bt; 6 with 2, 8, span; 6 with 2, (2^24 − 1)/span rounded down, samples. Example: (0.5, 8, 4) has 33 taps.
 #[no_mangle]

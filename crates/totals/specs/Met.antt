@@ -33,7 +33,7 @@ use Rattle.pulses.specs.Gaussian as Gaussian
 use Rattle.channelizer.specs.Channelizer as Channelizer
 use Rattle.border.specs.Codes.{windowOf}
 use Rattle.border.specs.Lowpass.{lowpassBytes}
-use Rattle.border.specs.More.{halfbandBytes, gaussianBytes, channelizerBytes}
+use Rattle.border.specs.Buffers.{halfbandBytes, gaussianBytes, channelizerBytes}
 use Rattle.border.specs.Spec.{specBytes, specOf}
 use Rattle.border.specs.Reports.{outcomeReport}
 use Rattle.border.specs.Taps.{written}

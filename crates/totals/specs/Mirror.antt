@@ -20,7 +20,7 @@ use Rattle.halfband.specs.Mirror.{IsZero, mirror, zero-taps}
 use Rattle.halfband.specs.declared.HalfbandDesign.{HalfbandDesign}
 use Rattle.halfband.specs.declared.HalfbandDesigned.{HalfbandDesigned}
 use Rattle.halfband.specs.declared.HalfbandDesigned.the-variants.{Ready, Refused}
-use Rattle.border.specs.More.{halfbandBytes}
+use Rattle.border.specs.Buffers.{halfbandBytes}
 use Rattle.border.specs.Reports.{outcomeReport}
 use Rattle.border.specs.Taps.{Writes, written}
 use Rattle.totals.specs.Sound.{Sound, either-way, halfband-bytes-sound}

@@ -34,7 +34,7 @@ use Rattle.channelizer.specs.ChannelizerLaws.{prototypeOf}
 use Rattle.channelizer.specs.declared.Checked.{Checked}
 use Rattle.channelizer.specs.declared.Checked.the-variants as Checked
 use Rattle.border.specs.Lowpass.{lowpassBytes}
-use Rattle.border.specs.More.{halfbandBytes, gaussianBytes, channelizerBytes}
+use Rattle.border.specs.Buffers.{halfbandBytes, gaussianBytes, channelizerBytes}
 use Rattle.border.specs.Spec.{specBytes}
 use Rattle.border.specs.Taps.{wholeTaps}
 use Rattle.border.specs.declared.codes.Coded.{Coded}

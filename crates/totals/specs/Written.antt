@@ -18,7 +18,7 @@ use Rattle.fir.specs.Outcome.{Outcome, Made, Turned}
 use Rattle.fir.specs.declared.spec.DesignSpec.{DesignSpec}
 use Rattle.border.specs.Codes.{windowOf}
 use Rattle.border.specs.Lowpass.{lowpassBytes}
-use Rattle.border.specs.More.{halfbandBytes, gaussianBytes, channelizerBytes}
+use Rattle.border.specs.Buffers.{halfbandBytes, gaussianBytes, channelizerBytes}
 use Rattle.border.specs.Reports.{outcomeReport}
 use Rattle.border.specs.Spec.{specBytes}
 use Rattle.border.specs.Taps.{Writes, written}

@@ -1,0 +1,2 @@
+pub mod Rrc
+pub mod RrcLaws

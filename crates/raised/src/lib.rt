@@ -1,0 +1,3 @@
+// The root-raised-cosine pulse.
+pub mod design;
+pub mod fill;
