@@ -1,0 +1,4 @@
+pub mod Biquad
+pub mod Preemphasis
+pub mod Butterworth
+pub mod SectionLaws
