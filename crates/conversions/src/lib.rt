@@ -1,2 +1,3 @@
 // Taps as the numbers that a filter in fixed point runs on.
+pub mod q14;
 pub mod q15;
