@@ -150,9 +150,10 @@ pel_report pel_spec_design(double cutoff, double transition, double attenuation,
 /* ---- Half-band filters ------------------------------------------------------------------------ */
 
 /* A half-band of bytes/8 taps with Kaiser's window: the low-pass at a quarter of the rate with every tap
- * at an even distance from the middle set to 0, the right half mirrored from the left, and divided once
- * more by the sum. Accepted: count is the number of taps, value the last divisor. The taps are mirror
- * images to the bit, for every accepted ticket. Refused, in this order, with `out` as it came:
+ * at an even distance from the middle, but the middle itself, set to 0, the right half mirrored from the
+ * left, and divided once more by the sum. Accepted: count is the number of taps, value the last divisor.
+ * The taps are mirror images to the bit, for every accepted ticket. Refused, in this order, with `out` as
+ * it came:
  *   8   bytes isn't a multiple of 8, both figures in bytes
  *   6   the taps aren't 3 over a multiple of 4, or are more than 2^24
  *   4   a beta that isn't finite and not negative

@@ -30,7 +30,7 @@ abbrev pub saturated : ℤ → ℤ
 saturated (pos n) = pos (min n 32767)
 saturated (negsuc n) = negsuc (min n 32767)
 
--- "saturates": that floor lies outside −32768 to 32767
+-- whether it lies in −32768 to 32767; a tap "saturates" if its floor does not
 abbrev pub in16 : ℤ → Bool
 in16 (pos n) = leb n 32767
 in16 (negsuc n) = leb n 32767
