@@ -2,7 +2,7 @@
 -- Over any element type and any width: f64, f32 and Q15 elements in a byte buffer are w = 8, 4 and 2.
 use mathlib.Core.Path.{_≡_, refl, sym, ap, _∙_}
 use mathlib.Core.List.{List, [], _++_, append-nil}
-use Prim.Native.Nat.{ℕ, zero, suc, _+_, _*_, _≤_}
+use Prim.Native.Nat.{ℕ, zero, suc, _+_, _*_, _<_, _≤_}
 use native.Mathlib.Nat.{mul-suc, mul-zero}
 use native.Mathlib.Numerals.{add-one}
 use native.Mathlib.Omega.{arith}
@@ -13,6 +13,11 @@ module _ {A : Type 0} where
   unfoldable pub chunks : ℕ → (ℕ → List A) → List A
   chunks zero g = []
   chunks (suc n) g = chunks n g ++ g n
+
+  pub chunks-below : (n : ℕ) (f g : ℕ → List A) → ((i : ℕ) → i < n → f i ≡ g i) → chunks n f ≡ chunks n g
+  unfolding chunks
+  chunks-below zero f g e = refl
+  chunks-below (suc n) f g e = ap (λ (l : List A). l ++ f n) (chunks-below n f g (λ i h. e i (omega arith))) ∙ ap (λ (l : List A). chunks n g ++ l) (e n (omega arith))
 
   -- the first n chunks by g, the rest as in d
   abbrev pub chunked : ℕ → ℕ → (ℕ → List A) → List A → List A

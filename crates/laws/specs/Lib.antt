@@ -5,6 +5,7 @@ pub mod Filled
 pub mod Prefix
 pub mod Chunks
 pub mod Binary64
+pub mod Closest
 pub mod Rounding
 pub mod Units
 pub mod Values
@@ -15,6 +16,7 @@ pub mod Floor
 pub mod WholeValues
 pub mod AtMost
 pub mod WholeUnits
+pub mod RoundedBits
 pub mod WholeSums
 pub mod SumError
 pub mod Sums

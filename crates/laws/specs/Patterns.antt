@@ -1,8 +1,8 @@
--- The bit pattern of a value: without the bit of its sign it is the pattern of its size, and from 2 ^ (prec - 1) to 2 ^ prec, where the last digit is worth 1, it counts the whole numbers. Assumes nothing.
+-- The bit pattern of a value: without the bit of its sign it is the pattern of its size, each place that its digits are moved up counts in the exponent's field, and from 2 ^ (prec - 1) to 2 ^ prec, where the last digit is worth 1, it counts the whole numbers. Assumes nothing.
 use mathlib.Core.Path.{_≡_, ap, _∙_}
 use mathlib.Core.Bool.{Bool, true, false, cond}
 use Prim.Native.Nat.{ℕ, zero, suc, _+_, _-_, _*_, _/_, _%_, _^_, _≤_, _<_}
-use native.Mathlib.Nat.{add-assoc, add-mod-left, mod-eq-of-lt, le-trans, le-of-eq, le-antisymm, lt-of-not-le, lt-of-lt-of-le, not-le-of-lt, mul-le-mul-right, mul-div-cancel}
+use native.Mathlib.Nat.{zero-add, add-assoc, add-mod-left, mod-eq-of-lt, le-trans, le-of-eq, le-antisymm, lt-of-not-le, lt-of-lt-of-le, not-le-of-lt, mul-le-mul-right, mul-div-cancel}
 use native.Mathlib.Omega.{arith}
 use lib.Dec.{T}
 use lib.IntN.{ℤ}
@@ -13,7 +13,7 @@ use lib.Ieee.Digits.{size-lt, size-le}
 use lib.Ieee.Fits.{two, two-le-pos}
 use lib.Ieee.Scale.{finite}
 use Rattle.laws.specs.Units.{mag, isNeg}
-use Rattle.laws.specs.Values.{to-bits}
+use Rattle.laws.specs.Values.{bitsOf, to-bits}
 
 -- ---- without its sign
 other-sign : (f : Format) (s t : Bool) (m : ℕ) (e : ℤ) → T (fits f (fin s m e)) → T (fits f (fin t m e))
@@ -34,24 +34,25 @@ unsigned-bits f s m e t =
         ap (λ (z : ℕ). z % t) (add-assoc t a b) ∙ add-mod-left t (a + b) ∙ mod-eq-of-lt k ∙ omega arith
     go false t a b h = mod-eq-of-lt (omega arith)
 
--- ---- the pattern of a large whole number
-size-is : (n i j : ℕ) → i ≡ suc j → 2 ^ j ≤ n → n < 2 ^ i → size n ≡ i
+-- ---- a number n of all the format's digits, moved up by k places
+pub size-is : (n i j : ℕ) → i ≡ suc j → 2 ^ j ≤ n → n < 2 ^ i → size n ≡ i
 size-is n i j e h k = le-antisymm (size-le n i k) (le-trans (le-of-eq e) (lt-of-not-le (λ (g : size n ≤ j). not-le-of-lt (lt-of-lt-of-le (size-lt n) (pow-mono g)) h)))
 
-pub large-bits : (f : Format) (x : Float) (n : ℕ) → T (finite x) → isNeg x ≡ false → mag f x ≡ n * 2 ^ low f → hid f ≤ n → n < 2 ^ prec f → toBits f x ≡ low f * hid f + n
-large-bits f x n u s e h k =
-    let p = prec f in
-    let a : size (n * 2 ^ low f) ≡ p + low f = size-is (n * 2 ^ low f) (p + low f) (p - 1 + low f) (one-more p (low f) (two-le-pos p (two f))) (le-trans (le-of-eq (pow-add 2 (p - 1) (low f))) (mul-le-mul-right (2 ^ low f) h)) (shl-lt p (low f) k) in
-    to-bits f x u ∙ go (isNeg x) (mag f x) p (low f) s e a
+pub shifted-size : (p n k : ℕ) → 0 < p → 2 ^ (p - 1) ≤ n → n < 2 ^ p → size (n * 2 ^ k) ≡ p + k
+shifted-size p n k P h l = size-is (n * 2 ^ k) (p + k) (p - 1 + k) (one-more p k P) (le-trans (le-of-eq (pow-add 2 (p - 1) k)) (mul-le-mul-right (2 ^ k) h)) (shl-lt p k l)
   where
-    one-more : (p l : ℕ) → 0 < p → p + l ≡ suc (p - 1 + l)
-    one-more p l h = omega arith
+    one-more : (p k : ℕ) → 0 < p → p + k ≡ suc (p - 1 + k)
+    one-more p k h = omega arith
 
-    back : (p l : ℕ) → p + l - p ≡ l
-    back p l = omega arith
+pub shifted-bits : (f : Format) (s : Bool) (n k : ℕ) → hid f ≤ n → n < 2 ^ prec f → bitsOf f s (n * 2 ^ k) ≡ cond s (top f) 0 + (k * hid f + n)
+shifted-bits f s n k h l = go (prec f) (shifted-size (prec f) n k (two-le-pos (prec f) (two f)) h l)
+  where
+    back : (p k : ℕ) → p + k - p ≡ k
+    back p k = omega arith
 
-    go : (s : Bool) (w p l : ℕ) → s ≡ false → w ≡ n * 2 ^ l → size (n * 2 ^ l) ≡ p + l → cond s (top f) 0 + (size w - p) * hid f + w / 2 ^ (size w - p) ≡ l * hid f + n
-    go s w p l a e z =
-        let b : size w - p ≡ l = ap (λ (v : ℕ). size v - p) e ∙ ap (λ (v : ℕ). v - p) z ∙ back p l in
-        let c : w / 2 ^ l ≡ n = ap (λ (v : ℕ). v / 2 ^ l) e ∙ mul-div-cancel n (pow-pos l) in
-        rw (a, b, c) (omega arith)
+    go : (p : ℕ) → size (n * 2 ^ k) ≡ p + k → cond s (top f) 0 + (size (n * 2 ^ k) - p) * hid f + n * 2 ^ k / 2 ^ (size (n * 2 ^ k) - p) ≡ cond s (top f) 0 + (k * hid f + n)
+    go p z = rw (z, back p k, mul-div-cancel n (pow-pos k)) (add-assoc (cond s (top f) 0) (k * hid f) n)
+
+-- the pattern of a large whole number
+pub large-bits : (f : Format) (x : Float) (n : ℕ) → T (finite x) → isNeg x ≡ false → mag f x ≡ n * 2 ^ low f → hid f ≤ n → n < 2 ^ prec f → toBits f x ≡ low f * hid f + n
+large-bits f x n u s e h k = to-bits f x u ∙ rw (s, e) (shifted-bits f false n (low f) h k ∙ zero-add (low f * hid f + n))

@@ -4,9 +4,6 @@ use mathlib.Core.Logic.{inl, inr}
 use Prim.Native.Nat.{ℕ, zero, suc, _+_, _-_, _*_, _/_, _%_, _^_, _≤_, _<_, compare, Ordering, Ordering·lt, Ordering·eq, Ordering·gt}
 use native.Mathlib.Nat.{le-trans, le-of-eq, le-add-right, lt-irrefl, le-of-mul-le-mul-left, eq-zero-or-pos, mod-lt, div-add-mod', mul-one, mul-comm, mul-assoc, mul-le-mul-left, mul-le-mul-right, mul-pos, le-div-iff-mul-le, mul-div-cancel, pow-suc}
 use native.Mathlib.Omega.{arith}
-use mathlib.Core.Bool.{not}
-use lib.Dec.{T, isLe, isEq, eqb, leb→le, nleb→lt, eqb→eq, eqb-refl}
-use lib.Arith.{lt-of-le-ne}
 use lib.Pow.{pow-add, pow-pos, shl-lt}
 use lib.Ieee.{Format, prec, low, size, nearest}
 use lib.Ieee.Digits.{size-reaches, size-le, back}
@@ -14,35 +11,23 @@ use lib.Ieee.Fits.{two, two-le-pos}
 use lib.Ieee.Nearest.{closest}
 use lib.Ieee.Order.{drop, kept}
 use lib.Ieee.Scale.{grid}
+use Rattle.laws.specs.Closest.{Ordered, compare-says}
 
 -- a and b differ by at most c
 abbrev pub Within : ℕ → ℕ → ℕ → Type 0
 Within a b c = (a ≤ b + c) × (b ≤ a + c)
 
-abbrev Cmp : Ordering → ℕ → ℕ → Type 0
-Cmp Ordering·lt a b = a < b
-Cmp Ordering·eq a b = a ≡ b
-Cmp Ordering·gt a b = b < a
-
-cmp : (a b : ℕ) → Cmp (compare a b) a b
-cmp a b = go (compare a b) (leb→le a b) (nleb→lt a b) (eqb→eq a b) (λ (e : a ≡ b). subst (λ (x : ℕ). T (eqb a x)) e (eqb-refl a))
-  where
-    go : (o : Ordering) → (T (isLe o) → a ≤ b) → (T (not (isLe o)) → b < a) → (T (isEq o) → a ≡ b) → (a ≡ b → T (isEq o)) → Cmp o a b
-    go Ordering·lt h k e n = lt-of-le-ne (h tt) n
-    go Ordering·eq h k e n = e tt
-    go Ordering·gt h k e n = k tt
-
 bit : (q : ℕ) → q % 2 ≤ 1
 bit q = omega arith
 
 -- n = q * u + r: the nearest multiple of u is at most u / 2 away
-near-half : (q r u n : ℕ) (o : Ordering) → q * u + r ≡ n → r < u → Cmp o (r * 2) u → Within (2 * (nearest q o * u)) (2 * n) u
+near-half : (q r u n : ℕ) (o : Ordering) → q * u + r ≡ n → r < u → Ordered o (r * 2) u → Within (2 * (nearest q o * u)) (2 * n) u
 near-half q r u n Ordering·lt e l c = omega arith
 near-half q r u n Ordering·eq e l c = let h : q % 2 * u ≤ 1 * u = mul-le-mul-right u (bit q) in omega arith
 near-half q r u n Ordering·gt e l c = omega arith
 
 pub closest-half : (n u : ℕ) → 0 < u → Within (2 * (closest n u * u)) (2 * n) u
-closest-half n u U = near-half (n / u) (n % u) u n (compare (n % u * 2) u) (div-add-mod' n u) (mod-lt n U) (cmp (n % u * 2) u)
+closest-half n u U = near-half (n / u) (n % u) u n (compare (n % u * 2) u) (div-add-mod' n u) (mod-lt n U) (compare-says (n % u * 2) u)
 
 -- ---- `Within` under a factor
 pub times : (h a b c : ℕ) → Within a b c → Within (h * a) (h * b) (h * c)

@@ -1,0 +1,5 @@
+pub mod Single
+pub mod Sized
+pub mod Narrowing
+pub mod SizedLaws
+pub mod SingleLaws

@@ -1,0 +1,3 @@
+// Values as f32: the nearest one.
+pub mod narrow;
+pub mod slices;
