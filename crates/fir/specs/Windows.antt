@@ -27,10 +27,20 @@ notBelow0 x = cond (lt (whole 0) x) x (whole 0)
 unfoldable pub angle : Float → Float → Float
 angle p d = whole 2 ⊗ pi ⊗ p ⊘ d
 
--- Kaiser's window, i0 the series at beta
-unfoldable pub kaiserAt : Float → Float → Float → Float → Float
+-- Kaiser's window, i0 the series at beta: its radicand, what its series is taken at, and its value
+unfoldable pub kaiserRadicand : Float → Float → Float
 unfolding notBelow0
-kaiserAt beta i0 p d = let t = whole 2 ⊗ p ⊘ d ⊖ whole 1 in seriesOf (beta ⊗ sqrtOf (notBelow0 (whole 1 ⊖ t ⊗ t))) .sum ⊘ i0
+kaiserRadicand p d = let t = whole 2 ⊗ p ⊘ d ⊖ whole 1 in notBelow0 (whole 1 ⊖ t ⊗ t)
+
+abbrev pub kaiserArgument : Float → Float → Float
+kaiserArgument beta radicand = beta ⊗ sqrtOf radicand
+
+abbrev pub kaiserValue : Float → Float → Float
+kaiserValue i0 x = seriesOf x .sum ⊘ i0
+
+unfoldable pub kaiserAt : Float → Float → Float → Float → Float
+unfolding kaiserRadicand
+kaiserAt beta i0 p d = kaiserValue i0 (kaiserArgument beta (kaiserRadicand p d))
 
 -- two taps at least
 unfoldable pub shapeAt : Window → Float → Float → Float → Float

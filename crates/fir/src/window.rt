@@ -1,7 +1,7 @@
 // The windows of a windowed-sinc design, symmetric.
 ghost use mathlib.Core.Path.{_≡_};
 ghost use Prim.Native.Nat.{_^_, _<_, _≤_};
-ghost use Rattle.fir.specs.Windows.{kaiserAt, windowAt, normOf};
+ghost use Rattle.fir.specs.Windows.{kaiserRadicand, kaiserArgument, kaiserValue, kaiserAt, windowAt, normOf};
 
 const PI: f64 = 3.141592653589793;
 
@@ -28,15 +28,35 @@ pub fn norm(w: Window) -> f64
     }
 }
 
-// I0(beta √(1 − t²)) / i0 with t = 2 i/d − 1, where i is p; below 0 the radicand counts as 0.
-fn kaiser_at(beta: f64, i0: f64, p: f64, d: f64) -> f64
-    ensures { λ r. ⌜ r ≡ kaiserAt beta i0 p d ⌝ }
+// 1 − t² with t = 2 i/d − 1, where i is p; 0 where that is below 0. Kaiser's window takes three steps, for a loop that has them at work on one sample each.
+pub fn kaiser_radicand(p: f64, d: f64) -> f64
+    ensures { λ r. ⌜ r ≡ kaiserRadicand p d ⌝ }
 {
     let t = 2.0 * p / d - 1.0;
     let left = 1.0 - t * t;
-    let radicand = if left > 0.0 { left } else { 0.0 };
-    let s = series::bessel_i0(beta * root::sqrt::sqrt(radicand));
+    if left > 0.0 { left } else { 0.0 }
+}
+
+// beta √radicand: what the series is taken at.
+pub fn kaiser_argument(beta: f64, radicand: f64) -> f64
+    ensures { λ r. ⌜ r ≡ kaiserArgument beta radicand ⌝ }
+{
+    beta * root::sqrt::sqrt(radicand)
+}
+
+// I0(x) / i0: Kaiser's window, by what its series is taken at.
+pub fn kaiser_value(i0: f64, x: f64) -> f64
+    ensures { λ r. ⌜ r ≡ kaiserValue i0 x ⌝ }
+{
+    let s = series::bessel_i0(x);
     s.sum / i0
+}
+
+// I0(beta √(1 − t²)) / i0 with t = 2 i/d − 1, where i is p: the three steps.
+pub fn kaiser_at(beta: f64, i0: f64, p: f64, d: f64) -> f64
+    ensures { λ r. ⌜ r ≡ kaiserAt beta i0 p d ⌝ }
+{
+    kaiser_value(i0, kaiser_argument(beta, kaiser_radicand(p, d)))
 }
 
 // The window at tap i of n, 1 where there is only one; i0 is the series at beta.

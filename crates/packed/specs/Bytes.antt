@@ -6,7 +6,7 @@ use lib.Dec.{leb}
 use lib.ListN.{length, take, drop}
 use lib.Seq.{sets}
 use lib.IntN.{ℤ, pos, negsuc}
-use lib.Ieee.{Float, binary64, toBits, ofBits}
+use lib.Ieee.{Float, binary32, binary64, toBits, ofBits}
 use Rattle.laws.specs.Filled.{tabulate}
 
 -- the w lowest bytes of n
@@ -54,3 +54,20 @@ floatsIn n d = tabulate n (λ i. floatAt d (8 * i))
 -- the f64 in the eight bytes from `at` on; 0 where they aren't all there
 unfoldable pub getOf : List ℕ → ℕ → Float
 getOf d at = cond (leb (at + 8) (length d)) (floatAt d at) (ofBits binary64 0)
+
+-- ---- the same of an f32, four bytes
+-- a NaN has the pattern 7FC00000
+abbrev pub singleBytes : Float → List ℕ
+singleBytes x = bytesOf 4 (toBits binary32 x)
+
+abbrev pub joinedFour : ℕ → ℕ → ℕ → ℕ → ℕ
+joinedFour a b c d = a + 256 * b + 65536 * c + 16777216 * d
+
+abbrev pub singleAt : List ℕ → ℕ → Float
+singleAt d at = ofBits binary32 (numberOf (take 4 (drop at d)))
+
+abbrev pub singlesIn : ℕ → List ℕ → List Float
+singlesIn n d = tabulate n (λ i. singleAt d (4 * i))
+
+unfoldable pub getSingleOf : List ℕ → ℕ → Float
+getSingleOf d at = cond (leb (at + 4) (length d)) (singleAt d at) (ofBits binary32 0)

@@ -1,11 +1,13 @@
--- How many bytes there are, and a buffer that is filled with the bytes of numbers, one number a turn. Assumes nothing.
+-- How many bytes there are, whether a buffer has them, and a buffer that is filled with the bytes of numbers, one number a turn. Assumes nothing.
 use mathlib.Core.Path.{_≡_, refl, ap, _∙_}
 use mathlib.Core.List.{List}
+use mathlib.Core.Bool.{cond}
 use Prim.Native.Nat.{ℕ, zero, suc, _+_, _*_, _/_, _%_, _-_, _<_, _≤_}
 use native.Mathlib.Nat.{mul-suc}
 use native.Mathlib.Numerals.{add-one}
 use native.Mathlib.Omega.{arith}
 use borrow.Author.Tests.{le-leb, lt-leb}
+use lib.Dec.{leb}
 use lib.ListN.{length, set}
 use lib.Seq.{sets}
 use Rattle.laws.specs.Chunks.{chunks, chunked, chunk-none, chunk-more, chunk-all, length-chunked}
@@ -29,15 +31,22 @@ store-next d end i n h =
     let e : end - i ≡ suc (end - (i + 1)) = omega arith in
     rw (e, add-one)
 
--- where the bytes fit, and where not
+-- what the test for w bytes from `at` on chooses, to read or to store: where they are all there, and where not
+module _ {A : Type 0} (w : ℕ) (d : List ℕ) (at : ℕ) (x y : A) where
+  pub there : at + w ≤ length d → cond (leb (at + w) (length d)) x y ≡ x
+  there h = rw (le-leb (at + w) (length d) h)
+
+  pub missing : length d < at + w → cond (leb (at + w) (length d)) x y ≡ y
+  missing h = rw (lt-leb (at + w) (length d) h)
+
 module _ (w : ℕ) (d : List ℕ) (at n : ℕ) where
   pub put-fits : at + w ≤ length d → putOf w d at n ≡ sets d at (bytesOf w n)
   unfolding putOf
-  put-fits h = rw (le-leb (at + w) (length d) h)
+  put-fits = there w d at (sets d at (bytesOf w n)) d
 
   pub put-short : length d < at + w → putOf w d at n ≡ d
   unfolding putOf
-  put-short h = rw (lt-leb (at + w) (length d) h)
+  put-short = missing w d at (sets d at (bytesOf w n)) d
 
 -- a buffer filled with the w lowest bytes of the numbers g 0, g 1, ..: at first, one more, its length, and all of them
 module _ (w : ℕ) (g : ℕ → ℕ) where

@@ -1,21 +1,23 @@
--- Reading gives back what was written: a number, and a buffer's f64s. Assumes nothing.
+-- Reading gives back what was written: a number, and a buffer's f64s; the bytes of a number one by one, and which patterns are a NaN's. Assumes nothing.
 use mathlib.Core.Path.{_≡_, refl, sym, ap, _∙_}
 use mathlib.Core.List.{List, [], _∷_, _++_}
+use mathlib.Core.Bool.{not}
 use Prim.Native.Nat.{ℕ, zero, suc, _+_, _*_, _/_, _%_, _^_, _≤_, _<_}
-use native.Mathlib.Nat.{lt-of-lt-of-le, le-of-eq, pow-suc, div-lt-iff-lt-mul, not-suc-le-zero, mul-suc, mul-le-mul-left}
+use native.Mathlib.Nat.{lt-of-lt-of-le, le-of-eq, pow-suc, div-lt-iff-lt-mul, not-suc-le-zero, mul-suc, mul-le-mul-left, add-assoc}
 use native.Mathlib.Omega.{arith}
-use borrow.Author.Tests.{le-leb, lt-leb}
+use borrow.Author.Tests.{lt-ltb, le-ltb}
 use lib.Dec.{T, lit≤}
 use lib.ListN.{length, take, drop, getD, length-drop}
 use lib.Seq.{drop-cons, take-all, drop-at, take-append-le, drop-append-le}
-use lib.Ieee.{Float, binary64, ofBits, toBits, fits}
-use lib.Ieee.Bits.{ofBits-toBits, toBits-lt}
+use lib.Ieee.{Float, nan, Format, binary32, binary64, ofBits, toBits, fits, nanBits, ones, hid, top}
+use lib.Ieee.Bits.{ofBits-toBits, toBits-lt, nanBits-is, nanBits-above}
 use Rattle.laws.specs.Cases.{either}
 use Rattle.laws.specs.Numbers.{lt-or-le}
+use Rattle.laws.specs.Tests.{fails, is-nan}
 use Rattle.laws.specs.Chunks.{chunks, length-chunks}
 use Rattle.laws.specs.Filled.{tabulate, tabulate-below}
-use Rattle.packed.specs.Bytes.{bytesOf, floatBytes, numberOf, joined, floatOf, floatAt, floatsIn, getOf}
-use Rattle.packed.specs.Laws.{length-bytes}
+use Rattle.packed.specs.Bytes.{bytesOf, floatBytes, numberOf, joined, joinedFour, floatOf, floatAt, floatsIn, getOf, singleAt, getSingleOf}
+use Rattle.packed.specs.Laws.{length-bytes, there, missing}
 
 -- ---- a number
 rejoined : (n : ℕ) → n % 256 + 256 * (n / 256) ≡ n
@@ -68,7 +70,7 @@ floats-back n t f =
     tabulate-below n (λ i. floatOf (take 8 (drop (8 * i) (chunks n (λ i. floatBytes (t i)))))) t
     (λ i h. ap floatOf (chunk-at 8 (λ i. floatBytes (t i)) (λ i. length-bytes 8 (toBits binary64 (t i))) n i h) ∙ float-bytes (t i) (f i))
 
--- ---- eight bytes one by one
+-- ---- bytes one by one
 next : (d : List ℕ) (at k n : ℕ) → at < length d → n ≡ suc at → numberOf (take (suc k) (drop at d)) ≡ getD d at 0 + 256 * numberOf (take k (drop n d))
 unfolding numberOf
 next d at k n h e = rw (drop-cons d at 0 h, e)
@@ -78,24 +80,47 @@ unfolding numberOf
 none [] = refl
 none (b ∷ d) = refl
 
+-- four, and k more
+module _ (d : List ℕ) (at : ℕ) where
+  abbrev fourAt : ℕ
+  fourAt = joinedFour (getD d at 0) (getD d (at + 1) 0) (getD d (at + 2) 0) (getD d (at + 3) 0)
+
+  four-more : (k : ℕ) → at + 4 ≤ length d → numberOf (take (suc (suc (suc (suc k)))) (drop at d)) ≡ fourAt + 4294967296 * numberOf (take k (drop (at + 4) d))
+  four-more k h =
+      let e0 = next d at (suc (suc (suc k))) (at + 1) (omega arith) (omega arith) in
+      let e1 = next d (at + 1) (suc (suc k)) (at + 2) (omega arith) (omega arith) in
+      let e2 = next d (at + 2) (suc k) (at + 3) (omega arith) (omega arith) in
+      let e3 = next d (at + 3) k (at + 4) (omega arith) (omega arith) in
+      omega (arith, e0, e1, e2, e3)
+
+  pub four : at + 4 ≤ length d → fourAt ≡ numberOf (take 4 (drop at d))
+  four h = omega (arith, four-more 0 h, none (drop (at + 4) d))
+
 pub eight : (d : List ℕ) (at : ℕ) → at + 8 ≤ length d → joined (getD d at 0) (getD d (at + 1) 0) (getD d (at + 2) 0) (getD d (at + 3) 0) (getD d (at + 4) 0) (getD d (at + 5) 0) (getD d (at + 6) 0) (getD d (at + 7) 0) ≡ numberOf (take 8 (drop at d))
-eight d at h =
-    let e0 = next d at 7 (at + 1) (omega arith) (omega arith) in
-    let e1 = next d (at + 1) 6 (at + 2) (omega arith) (omega arith) in
-    let e2 = next d (at + 2) 5 (at + 3) (omega arith) (omega arith) in
-    let e3 = next d (at + 3) 4 (at + 4) (omega arith) (omega arith) in
-    let e4 = next d (at + 4) 3 (at + 5) (omega arith) (omega arith) in
-    let e5 = next d (at + 5) 2 (at + 6) (omega arith) (omega arith) in
-    let e6 = next d (at + 6) 1 (at + 7) (omega arith) (omega arith) in
-    let e7 = next d (at + 7) 0 (at + 8) (omega arith) (omega arith) in
-    omega (arith, e0, e1, e2, e3, e4, e5, e6, e7, none (drop (at + 8) d))
+eight d at h = omega (arith, four-more d at 4 (omega arith), simp add-assoc at (four d (at + 4) (omega arith)))
 
 -- where the bytes are all there, and where not
 module _ (d : List ℕ) (at : ℕ) where
   pub get-fits : at + 8 ≤ length d → getOf d at ≡ floatAt d at
   unfolding getOf
-  get-fits h = rw (le-leb (at + 8) (length d) h)
+  get-fits = there 8 d at (floatAt d at) (ofBits binary64 0)
 
   pub get-short : length d < at + 8 → getOf d at ≡ ofBits binary64 0
   unfolding getOf
-  get-short h = rw (lt-leb (at + 8) (length d) h)
+  get-short = missing 8 d at (floatAt d at) (ofBits binary64 0)
+
+  pub single-fits : at + 4 ≤ length d → getSingleOf d at ≡ singleAt d at
+  unfolding getSingleOf
+  single-fits = there 4 d at (singleAt d at) (ofBits binary32 0)
+
+  pub single-short : length d < at + 4 → getSingleOf d at ≡ ofBits binary32 0
+  unfolding getSingleOf
+  single-short = missing 4 d at (singleAt d at) (ofBits binary32 0)
+
+-- ---- the test for a NaN's pattern, in any format
+module _ (f : Format) (n : ℕ) where
+  pub nan-above : ones f * hid f < n % top f → nan ≡ ofBits f n
+  nan-above h = sym (is-nan (ofBits f n) (sym (nanBits-is f n) ∙ nanBits-above f n ∙ lt-ltb _ _ h))
+
+  pub not-nan : n % top f ≤ ones f * hid f → T (not (nanBits f n))
+  not-nan h = fails (nanBits-above f n ∙ le-ltb _ _ h)

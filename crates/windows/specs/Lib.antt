@@ -1,0 +1,4 @@
+pub mod Shapes
+pub mod Gain
+pub mod FillLaws
+pub mod SampleLaws

@@ -1,0 +1,111 @@
+// The shape of a window, one sample at a time.
+ghost use mathlib.Core.Path.{_≡_};
+ghost use Rattle.windows.specs.Shapes.{shapeTaken, normOf, divisorOf, harrisAt, placeAt, argumentOf, valueAt, sampleAt};
+
+const PI: f64 = 3.141592653589793;
+
+// Kaiser's window carries its shape, beta.
+pub enum Shape {
+    Hann,
+    BlackmanHarris,
+    Kaiser(f64),
+}
+
+// Periodic for spectral analysis, symmetric for filters.
+pub enum Symmetry {
+    Periodic,
+    Symmetric,
+}
+
+// Whether a window has this shape: beta must be finite and not negative.
+pub fn takes_shape(shape: Shape) -> bool
+    ensures { λ r. ⌜ r ≡ shapeTaken shape ⌝ }
+{
+    match shape {
+        Shape::Hann => true,
+        Shape::BlackmanHarris => true,
+        Shape::Kaiser(beta) => numbers::is_finite(beta) && beta >= 0.0,
+    }
+}
+
+// The Bessel series at beta, by which Kaiser's window is divided; 1 for the others.
+pub fn norm(shape: Shape) -> f64
+    ensures { λ r. ⌜ r ≡ normOf shape ⌝ }
+{
+    match shape {
+        Shape::Hann => 1.0,
+        Shape::BlackmanHarris => 1.0,
+        Shape::Kaiser(beta) => {
+            let s = series::bessel_i0(beta);
+            s.sum
+        }
+    }
+}
+
+// What the place of a sample is divided by: n, or one less where the window is symmetric; 0 for none.
+pub fn divisor(symmetry: Symmetry, n: u64) -> u64
+    ensures { λ r. ⌜ r ≡ divisorOf symmetry n ⌝ }
+{
+    match symmetry {
+        Symmetry::Periodic => n,
+        Symmetry::Symmetric => { if n == 0 { 0 } else { n - 1 } }
+    }
+}
+
+// Four terms, with the angle x.
+fn harris_at(x: f64) -> f64
+    ensures { λ r. ⌜ r ≡ harrisAt x ⌝ }
+{
+    0.35875 - 0.48829 * trig::cos::cos(x) + 0.14128 * trig::cos::cos(2.0 * x)
+        - 0.01168 * trig::cos::cos(3.0 * x)
+}
+
+// A sample takes three steps, for a loop that has them at work on one sample each. The first has its place in it: the angle, or Kaiser's radicand, at sample i for a divisor.
+pub fn place_at(shape: Shape, divisor: u64, i: u64) -> f64
+    ensures { λ r. ⌜ r ≡ placeAt shape divisor i ⌝ }
+{
+    let d = std::num::nearest_u64_to_f64(divisor);
+    let p = std::num::nearest_u64_to_f64(i);
+    match shape {
+        Shape::Hann => 2.0 * PI * p / d,
+        Shape::BlackmanHarris => 2.0 * PI * p / d,
+        Shape::Kaiser(_) => fir::window::kaiser_radicand(p, d),
+    }
+}
+
+// What the cosines or the series are taken at, by the first step's answer.
+pub fn argument_of(shape: Shape, place: f64) -> f64
+    ensures { λ r. ⌜ r ≡ argumentOf shape place ⌝ }
+{
+    match shape {
+        Shape::Hann => place,
+        Shape::BlackmanHarris => place,
+        Shape::Kaiser(beta) => fir::window::kaiser_argument(beta, place),
+    }
+}
+
+// A sample by its argument x, 1 where the divisor is 0; i0 is the series at beta.
+pub fn value_at(shape: Shape, i0: f64, divisor: u64, x: f64) -> f64
+    ensures { λ r. ⌜ r ≡ valueAt shape i0 divisor x ⌝ }
+{
+    if divisor == 0 {
+        return 1.0;
+    }
+    match shape {
+        Shape::Hann => 0.5 - 0.5 * trig::cos::cos(x),
+        Shape::BlackmanHarris => harris_at(x),
+        Shape::Kaiser(_) => fir::window::kaiser_value(i0, x),
+    }
+}
+
+// Sample i for a divisor.
+pub fn sample_at(shape: Shape, i0: f64, divisor: u64, i: u64) -> f64
+    ensures { λ r. ⌜ r ≡ sampleAt shape i0 divisor i ⌝ }
+{
+    value_at(
+        shape,
+        i0,
+        divisor,
+        argument_of(shape, place_at(shape, divisor, i)),
+    )
+}
