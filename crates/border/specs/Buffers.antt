@@ -1,10 +1,11 @@
--- The half-band, the Gaussian and the channelizer's prototype, each for a buffer of bytes, eight a tap. Definitions only.
+-- The half-band, the two pulses and the channelizer's prototype, each for a buffer of bytes, eight a tap. Definitions only.
 use Prim.Native.Nat.{ℕ, _/_}
 use lib.Ieee.{Float}
 use Rattle.fir.specs.Outcome.{Outcome}
 use Rattle.fir.specs.Lowpass as Lowpass
 use Rattle.halfband.specs.Halfband as Halfband
 use Rattle.pulses.specs.Gaussian as Gaussian
+use Rattle.raised.specs.Rrc as Rrc
 use Rattle.channelizer.specs.Channelizer as Channelizer
 use Rattle.border.specs.Taps.{wholeTaps}
 
@@ -13,6 +14,9 @@ halfbandBytes beta len = wholeTaps len (Halfband.outcomeOf (Halfband.halfbandOf 
 
 abbrev pub gaussianBytes : Float → ℕ → ℕ → ℕ → Outcome
 gaussianBytes bt sps span len = wholeTaps len (Gaussian.outcomeOf (Gaussian.fittedOf (Gaussian.gaussianOf bt sps span) (len / 8)))
+
+abbrev pub rrcBytes : Float → ℕ → ℕ → ℕ → Outcome
+rrcBytes rolloff sps span len = wholeTaps len (Rrc.outcomeOf (Rrc.fittedOf (Rrc.rrcOf rolloff sps span) (len / 8)))
 
 abbrev pub channelizerBytes : ℕ → ℕ → Float → Float → Float → ℕ → Outcome
 channelizerBytes channels branch passband stopband attenuation len = wholeTaps len (Lowpass.outcomeOf (Channelizer.fittedOf (Channelizer.channelizerLowpassOf channels branch passband stopband attenuation) (len / 8)))

@@ -22,6 +22,9 @@ use Rattle.halfband.specs.Halfband as Halfband
 use Rattle.pulses.specs.Gaussian as Gaussian
 use Rattle.pulses.specs.declared.gaussian_design.GaussianDesigned.{GaussianDesigned}
 use Rattle.pulses.specs.declared.gaussian_design.GaussianDesigned.the-variants as GaussianDesigned
+use Rattle.raised.specs.Rrc as Rrc
+use Rattle.raised.specs.declared.design.RrcDesigned.{RrcDesigned}
+use Rattle.raised.specs.declared.design.RrcDesigned.the-variants as RrcDesigned
 use Rattle.channelizer.specs.Channelizer as Channelizer
 use Rattle.border.specs.Sources.{Room}
 
@@ -72,10 +75,14 @@ pub halfband-count : (beta : Float) (n : ℕ) → Counted n (Halfband.outcomeOf 
 unfolding Halfband.halfbandOf
 halfband-count beta n = either-way Halfband.outcomeOf n _ _ (Halfband.lengthTaken n) (in-halfband n (Halfband.quarterOf beta n)) tt
 
--- ---- the Gaussian and the channelizer's prototype, for a buffer of len elements
+-- ---- the pulses and the channelizer's prototype, for a buffer of len elements
 pub gaussian-count : (d : GaussianDesigned) (len : ℕ) → Counted len (Gaussian.outcomeOf (Gaussian.fittedOf d len))
 gaussian-count (GaussianDesigned.Ready g) len = where-equal Gaussian.outcomeOf len _ _ (g .n) len (λ e. e) tt
 gaussian-count (GaussianDesigned.Refused why) len = tt
+
+pub rrc-count : (d : RrcDesigned) (len : ℕ) → Counted len (Rrc.outcomeOf (Rrc.fittedOf d len))
+rrc-count (RrcDesigned.Ready r) len = where-equal Rrc.outcomeOf len _ _ (r .n) len (λ e. e) tt
+rrc-count (RrcDesigned.Refused why) len = tt
 
 pub channelizer-count : (d : Designed) (len : ℕ) → Counted len (outcomeOf (Channelizer.fittedOf d len))
 channelizer-count (Designed.Ready l) len = where-equal outcomeOf len _ _ (l .n) len (λ e. e) tt

@@ -5,7 +5,5 @@ pub mod Sources
 pub mod Lowpass
 pub mod Spec
 pub mod Buffers
-pub mod Q15
-pub mod Q15Laws
 pub mod Counts
 pub mod Laws

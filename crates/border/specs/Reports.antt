@@ -1,6 +1,4 @@
 -- What is told of each answer: one definition that gives number and values for each case. Definitions only.
-use Prim.Native.Nat.{ℕ}
-use lib.Ieee.{binary64, ofInt}
 use Rattle.laws.specs.Binary64.{whole}
 use Rattle.refusal.specs.declared.Report.{Report}
 use Rattle.refusal.specs.Report.{reportOf, acceptedOf}
@@ -11,10 +9,6 @@ use Rattle.kaiser.specs.declared.order.Length.the-variants as Length
 use Rattle.fir.specs.declared.delay.Delayed.{Delayed}
 use Rattle.fir.specs.declared.delay.Delayed.the-variants as Delayed
 use Rattle.fir.specs.Outcome.{Outcome, Made, Turned}
-use Rattle.conversions.specs.declared.q15.Coded.{Coded}
-use Rattle.conversions.specs.declared.q15.Coded.the-variants as Coded
-use Rattle.conversions.specs.declared.q15.Converted.{Converted}
-use Rattle.conversions.specs.declared.q15.Converted.the-variants as Converted
 
 -- taps and beta
 abbrev pub orderReport : Order → Report
@@ -35,13 +29,3 @@ delayReport (Delayed.Refused why) = reportOf why
 abbrev pub outcomeReport : Outcome → Report
 outcomeReport (Made n sum tap) = acceptedOf n sum
 outcomeReport (Turned why) = reportOf why
-
--- a Q15 number
-abbrev pub codedReport : Coded → Report
-codedReport (Coded.Number q) = acceptedOf 0 (ofInt binary64 q)
-codedReport (Coded.Refused why) = reportOf why
-
--- how many elements were converted, all of n
-abbrev pub convertedReport : ℕ → Converted → Report
-convertedReport n Converted.Done = acceptedOf n (whole 0)
-convertedReport n (Converted.Refused why) = reportOf why

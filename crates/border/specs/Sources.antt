@@ -20,6 +20,8 @@ use Rattle.pulses.specs.Gaussian as Gaussian
 use Rattle.pulses.specs.declared.gaussian_design.Gaussian.{Gaussian}
 use Rattle.pulses.specs.declared.gaussian_design.GaussianDesigned.{GaussianDesigned}
 use Rattle.pulses.specs.declared.gaussian_design.GaussianDesigned.the-variants as GaussianDesigned
+use Rattle.raised.specs.Rrc as Rrc
+use Rattle.raised.specs.declared.design.RrcDesigned.{RrcDesigned}
 use Rattle.border.specs.declared.taps.Source.{Source}
 use Rattle.border.specs.declared.taps.Source.the-variants as Source
 
@@ -28,12 +30,14 @@ abbrev pub tapAt : Source → ℕ → Float
 tapAt (Source.Lowpass l i0) i = Lowpass.tapWith l i0 i
 tapAt (Source.Halfband d i0) i = Halfband.tapWith d i0 i
 tapAt (Source.Gaussian g) i = Gaussian.tapOf g i
+tapAt (Source.Rrc d) i = Rrc.tapOf d i
 
--- a list keeps the first raw taps
+-- a list keeps the first raw taps, where any are kept
 abbrev pub KeptFor : Source → List Float → Type 0
 KeptFor (Source.Lowpass l i0) rs = Keeps l i0 rs
 KeptFor (Source.Halfband d i0) rs = Keeps (d .lp) i0 rs
 KeptFor (Source.Gaussian g) rs = Gaussian.Keeps g rs
+KeptFor (Source.Rrc d) rs = Unit {0}
 
 -- what comes of a ticket, by kind
 abbrev pub ofLowpass : Designed → Outcome
@@ -44,6 +48,9 @@ ofHalfband d = Halfband.outcomeOf d
 
 abbrev pub ofGaussian : GaussianDesigned → Outcome
 ofGaussian d = Gaussian.outcomeOf d
+
+abbrev pub ofRrc : RrcDesigned → Outcome
+ofRrc d = Rrc.outcomeOf d
 
 -- what comes of a design that is as long as a buffer of len bytes
 abbrev pub Room : ℕ → Outcome → Type 0

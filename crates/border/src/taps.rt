@@ -7,6 +7,8 @@ use halfband::HalfbandDesigned;
 use halfband::HalfbandPrepared;
 use pulses::gaussian_design::Gaussian;
 use pulses::gaussian_design::GaussianDesigned;
+use raised::design::Rrc;
+use raised::design::RrcDesigned;
 use refusal::Report;
 ghost use mathlib.Core.Path.{_≡_};
 ghost use Prim.Native.Nat.{_/_, _%_};
@@ -14,7 +16,7 @@ ghost use lib.ListN.{length};
 ghost use Rattle.laws.specs.Chunks.{chunks};
 ghost use Rattle.packed.specs.Bytes.{floatBytes};
 ghost use Rattle.border.specs.Taps.{Writes};
-ghost use Rattle.border.specs.Sources.{tapAt, KeptFor, ofLowpass, ofHalfband, ofGaussian, FitsLowpass, FitsHalfband, FitsGaussian};
+ghost use Rattle.border.specs.Sources.{tapAt, KeptFor, ofLowpass, ofHalfband, ofGaussian, ofRrc, FitsLowpass, FitsHalfband, FitsGaussian, Room};
 
 // How many raw taps an export keeps while it designs, so that each is worked out once: 8 kilobytes.
 pub(crate) const KEPT: usize = 1024;
@@ -24,6 +26,7 @@ pub enum Source {
     Lowpass(Lowpass, f64),
     Halfband(HalfbandDesign, f64),
     Gaussian(Gaussian),
+    Rrc(Rrc),
 }
 
 // Tap i, from a list that keeps the first raw taps.
@@ -34,6 +37,7 @@ fn tap_at(source: Source, raws: &[f64], i: u64) -> f64
         Source::Lowpass(lp, i0) => fir::lowpass::kept_tap(lp, i0, raws, i),
         Source::Halfband(d, i0) => halfband::kept_tap(d, i0, raws, i),
         Source::Gaussian(g) => pulses::gaussian_design::kept_tap(g, raws, i),
+        Source::Rrc(d) => d.tap(i),
     }
 }
 
@@ -90,5 +94,20 @@ pub(crate) fn write_gaussian(designed: GaussianDesigned, raws: &[f64], out: &mut
             refusal::accepted(g.n, g.sum)
         }
         GaussianDesigned::Refused(why) => refusal::refused(why),
+    }
+}
+
+// The same of a root-raised cosine, of which no raw tap is kept.
+pub(crate) fn write_rrc(designed: RrcDesigned, out: &mut [u8]) -> Report
+    requires { ⌜ Room (length (now out)) (ofRrc designed) ⌝ }
+    ensures { λ r. ⌜ Writes (ofRrc designed) (now (out .entry)) r (now (out .exit)) ⌝ }
+{
+    match designed {
+        RrcDesigned::Ready(d) => {
+            let none = [0.0f64; 0];
+            put_taps(Source::Rrc(d), &none, &mut *out);
+            refusal::accepted(d.n, d.norm)
+        }
+        RrcDesigned::Refused(why) => refusal::refused(why),
     }
 }

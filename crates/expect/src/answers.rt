@@ -1,4 +1,5 @@
 // Whether an answer is the one that is expected: a number, a float or a refusal.
+use conversions::q15::Converted;
 use fir::lowpass::Designed;
 use fir::lowpass::Filled;
 use kaiser::order::Length;
@@ -8,9 +9,18 @@ pub fn nan() -> f64 {
     0.0 / 0.0
 }
 
+pub fn infinity() -> f64 {
+    1.0 / 0.0
+}
+
 // Whether x lies within d of y: false for a NaN.
 pub fn near(x: f64, y: f64, d: f64) -> bool {
     x - y <= d && y - x <= d
+}
+
+// Whether two numbers are equal or both are NaN.
+fn alike(x: f64, y: f64) -> bool {
+    x == y || x != x && y != y
 }
 
 // What stands for the refusal of an answer that is accepted: no refusal has the number 0.
@@ -27,7 +37,7 @@ fn is_plain(why: Refusal, number: u32) -> bool {
 
 fn is_range(why: Refusal, number: u32, lo: f64, hi: f64, got: f64) -> bool {
     match why {
-        Refusal::Range(k, a, b, x) => k == number && a == lo && b == hi && x == got,
+        Refusal::Range(k, a, b, x) => k == number && a == lo && b == hi && alike(x, got),
         _ => false,
     }
 }
@@ -48,12 +58,12 @@ fn is_cap(why: Refusal, taps: u64, cap: u64) -> bool {
 
 fn is_element(why: Refusal, index: u64, lo: f64, hi: f64, got: f64) -> bool {
     match why {
-        Refusal::Element(i, a, b, x) => i == index && a == lo && b == hi && x == got,
+        Refusal::Element(i, a, b, x) => i == index && a == lo && b == hi && alike(x, got),
         _ => false,
     }
 }
 
-// Whether two refusals have the same shape and the same numbers; a NaN equals nothing.
+// Whether two refusals have the same shape and the same numbers. An offered NaN equals any NaN.
 pub fn same(why: Refusal, expected: Refusal) -> bool {
     match expected {
         Refusal::Plain(k) => is_plain(why, k),
@@ -75,6 +85,13 @@ pub fn of_filled(f: Filled) -> Refusal {
     match f {
         Filled::Done => none(),
         Filled::Refused(why) => why,
+    }
+}
+
+pub fn of_converted(r: Converted) -> Refusal {
+    match r {
+        Converted::Done => none(),
+        Converted::Refused(why) => why,
     }
 }
 

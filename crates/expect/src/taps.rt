@@ -22,3 +22,15 @@ pub fn all_are(taps: &[f64], mark: f64) -> bool {
     }
     true
 }
+
+// Whether every tap but the one at this index is below the peak.
+pub fn others_below(taps: &[f64], at: usize, peak: f64) -> bool {
+    let mut i = 0;
+    while i < taps.len() {
+        if i != at && !(taps[i] < peak) {
+            return false;
+        }
+        i += 1;
+    }
+    true
+}

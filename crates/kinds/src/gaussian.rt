@@ -4,6 +4,7 @@ use expect::answers::none;
 use expect::answers::of_filled;
 use expect::answers::same;
 use expect::taps::all_are;
+use expect::taps::others_below;
 use expect::taps::sum;
 use expect::tell::Counts;
 use expect::tell::example;
@@ -35,18 +36,6 @@ fn divisor(designed: GaussianDesigned) -> f64 {
         GaussianDesigned::Ready(g) => g.sum,
         GaussianDesigned::Refused(_) => 0.0,
     }
-}
-
-// Whether every tap but the one at this index is below the peak.
-fn others_below(taps: &[f64], at: usize, peak: f64) -> bool {
-    let mut i = 0;
-    while i < taps.len() {
-        if i != at && !(taps[i] < peak) {
-            return false;
-        }
-        i += 1;
-    }
-    true
 }
 
 // 8 samples in each of 4 symbols, and one more.

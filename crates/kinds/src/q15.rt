@@ -1,10 +1,11 @@
 // Examples of taps as Q15 numbers.
-use conversions::q15::Coded;
-use conversions::q15::Converted;
 use conversions::q15::q15_tap;
 use conversions::q15::to_q15;
 use expect::answers::none;
+use expect::answers::of_converted;
 use expect::answers::same;
+use expect::codes::equal;
+use expect::codes::is_number;
 use expect::tell::Counts;
 use expect::tell::example;
 use refusal::Refusal;
@@ -18,44 +19,18 @@ const ABOVE: f64 = 1.009969177246094;
 // The next f64 below 2^-16: bits 3EEFFFFFFFFFFFFF.
 const BELOW_HALF: f64 = 1.5258789062499998e-5;
 
-fn of_converted(r: Converted) -> Refusal {
-    match r {
-        Converted::Done => none(),
-        Converted::Refused(why) => why,
-    }
-}
-
 // Whether the tap t is taken, as the number q.
-fn is_number(t: f64, q: i16) -> bool {
-    let coded = q15_tap(0, t);
-    match coded {
-        Coded::Number(n) => n == q,
-        Coded::Refused(_) => false,
-    }
-}
-
-// Whether two buffers have the same numbers.
-fn equal(numbers: &[i16], expected: &[i16]) -> bool {
-    if numbers.len() != expected.len() {
-        return false;
-    }
-    let mut i = 0;
-    while i < numbers.len() {
-        if numbers[i] != expected[i] {
-            return false;
-        }
-        i += 1;
-    }
-    true
+fn gives(t: f64, q: i16) -> bool {
+    is_number(q15_tap(0, t), q)
 }
 
 // Halves go up, and 32768 t + 0.5 is rounded before its floor is taken: so the f64 below 2^-16 gives 1 as 2^-16 does.
 pub fn taken(mut c: Counts) -> Counts {
-    c = example(c, b"1 is 32767", is_number(1.0, 32767));
-    c = example(c, b"-1 is -32768", is_number(-1.0, -32768));
-    c = example(c, b"the f64 below 2^-16 is 1", is_number(BELOW_HALF, 1));
-    c = example(c, b"the limit is 32767", is_number(LIMIT, 32767));
-    c = example(c, b"minus the limit is -32768", is_number(-LIMIT, -32768));
+    c = example(c, b"1 is 32767", gives(1.0, 32767));
+    c = example(c, b"-1 is -32768", gives(-1.0, -32768));
+    c = example(c, b"the f64 below 2^-16 is 1", gives(BELOW_HALF, 1));
+    c = example(c, b"the limit is 32767", gives(LIMIT, 32767));
+    c = example(c, b"minus the limit is -32768", gives(-LIMIT, -32768));
     let mut dst = [7i16; 2];
     let why = of_converted(to_q15(&[0.5, -0.25], &mut dst));
     let converted = equal(&dst, &[16384, -8192]);

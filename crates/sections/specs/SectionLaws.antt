@@ -1,6 +1,6 @@
 -- Laws of sections: every section has five numbers, they are stored one after the other, and every quality of a Butterworth filter is taken. Assumes nothing.
 use Prim.Native.Nat.{ℕ, zero, suc, _+_, _*_, _/_, _%_, _<_, _≤_}
-use mathlib.Core.Path.{_≡_, refl, ap, _∙_, subst}
+use mathlib.Core.Path.{_≡_, refl, sym, ap, _∙_, subst}
 use mathlib.Core.Bool.{Bool, true, false, cond, _&&_}
 use mathlib.Core.List.{List, [], _∷_}
 use native.Mathlib.Nat.{not-suc-le-zero, le-of-suc-le-suc, zero-lt-suc, suc-le-suc-iff}
@@ -16,7 +16,9 @@ use Rattle.laws.specs.Floor.{floorZ}
 use Rattle.laws.specs.Tests.{both}
 use Rattle.whole.specs.Whole.{floorOf, absOf, asFloat}
 use Rattle.trig.specs.Trig.{sinOf, cosOf}
-use Rattle.fir.specs.Outcome.{Made, Turned}
+use Rattle.fir.specs.Outcome.{Outcome, Made, Turned, answered}
+use Rattle.fir.specs.declared.lowpass.Filled.the-variants as Filled
+use Rattle.refusal.specs.declared.Refusal.{Refusal}
 use Rattle.refusal.specs.declared.Refusal.the-variants.{Plain, Range, Length}
 use Rattle.sections.specs.Biquad.{centreTaken, qualityTaken, sectionOf, biquadOf}
 use Rattle.sections.specs.Butterworth.{responseTaken, orderTaken, qualityOf, coefAt, butterworthOf}
@@ -153,3 +155,39 @@ module _ (r : Response) (order : ℕ) (cutoff rate : Float) (len : ℕ) where
         pub made : centreTaken cutoff rate ≡ true → butterworthOf r order cutoff rate len ≡ Made len (whole 0) (coefAt r order cutoff rate)
         unfolding butterworthOf
         made e = rw (a, b, c, e)
+
+-- ---- a filter that is judged right: its order is taken, and it has as many numbers as the buffer
+pub record Right (r : Response) (order : ℕ) (cutoff rate : Float) (len : ℕ) : Type 0 where
+  pub even : OrderIs order
+  pub count : len ≡ order / 2 * 5
+  pub is : butterworthOf r order cutoff rate len ≡ Made len (whole 0) (coefAt r order cutoff rate)
+
+never : (why : Refusal) → Filled.Done ≡ Filled.Refused why → ⊥
+never why e = let z : _≡_ {A = ℕ} 0 1 = cc in omega arith
+
+pub right : (r : Response) (order : ℕ) (cutoff rate : Float) (len : ℕ) → Filled.Done ≡ answered (butterworthOf r order cutoff rate len) → Right r order cutoff rate len
+unfolding butterworthOf
+right r order cutoff rate len e =
+    let t = go (responseTaken r) (orderTaken order) (eqb len (order / 2 * 5)) (centreTaken cutoff rate) (order-is order) (eqb-true len (order / 2 * 5)) e in
+    record { even = t .0; count = t .1; is = t .2 }
+  where
+    n : ℕ
+    n = order / 2 * 5
+
+    is : Outcome
+    is = Made len (whole 0) (coefAt r order cutoff rate)
+
+    by : Bool → Bool → Bool → Bool → Outcome
+    by a b c d = cond a (cond b (cond c (cond d is (Turned (Range 2 (whole 0) (rate ⊘ whole 2) cutoff))) (Turned (Length n len))) (Turned (Plain 6))) (Turned (Plain 7))
+
+    go : (a b c d : Bool) → (b ≡ true → OrderIs order) → (c ≡ true → len ≡ n) → Filled.Done ≡ answered (by a b c d) → OrderIs order × (len ≡ n) × (by a b c d ≡ is)
+    go true true true true p q e = (p refl, q refl, refl)
+    go true true true false p q e = absurd (never _ e)
+    go true true false d p q e = absurd (never _ e)
+    go true false c d p q e = absurd (never _ e)
+    go false b c d p q e = absurd (never _ e)
+
+-- ---- one that is refused
+pub turned : (why : Refusal) (o : Outcome) → Filled.Refused why ≡ answered o → o ≡ Turned why
+turned why (Made n sum tap) e = absurd (never why (sym e))
+turned why (Turned other) e = cc

@@ -8,7 +8,7 @@ ghost use mathlib.Core.Path.{_≡_};
 ghost use Prim.Native.Nat.{_+_, _<_, _≤_};
 ghost use lib.ListN.{length};
 ghost use lib.Seq.{sets};
-ghost use Rattle.fir.specs.Outcome.{Fills};
+ghost use Rattle.fir.specs.Outcome.{answered, Fills};
 ghost use Rattle.sections.specs.Butterworth.{responseTaken, orderTaken, qualityOf, butterworthOf};
 
 const PI: f64 = 3.141592653589793;
@@ -51,7 +51,27 @@ fn put_section(sos: &mut [f64], at: usize, coefs: [f64; 5])
     }
 }
 
-// Fills the buffer with order/2 sections, five numbers each, the lowest quality first. Refused, in this order, with the buffer as it came: 7 a response that is neither low-pass nor high-pass; 6 an order that isn't even, from 2 to 8; 8 where the buffer hasn't 5 order/2 elements; 2 with 0, rate/2, cutoff as `biquad_coefs`. 5 can't come: every quality is finite and positive.
+// Whether a filter is taken, for a buffer of `len` elements. Refused, in this order: 7 a response that is neither low-pass nor high-pass; 6 an order that isn't even, from 2 to 8; 8 where the buffer hasn't 5 order/2 elements; 2 with 0, rate/2, cutoff as `biquad_coefs`. 5 can't come: every quality is finite and positive.
+pub fn judge(response: Response, order: u64, cutoff: f64, rate: f64, len: u64) -> Filled
+    ensures { λ r. ⌜ r ≡ answered (butterworthOf response order cutoff rate len) ⌝ }
+{
+    if !takes_response(response) {
+        return Filled::Refused(Refusal::Plain(7));
+    }
+    if !takes_order(order) {
+        return Filled::Refused(Refusal::Plain(6));
+    }
+    let expected = order / 2 * 5;
+    if len != expected {
+        return Filled::Refused(Refusal::Length(expected, len));
+    }
+    if !takes_centre(cutoff, rate) {
+        return Filled::Refused(Refusal::Range(2, 0.0, rate / 2.0, cutoff));
+    }
+    Filled::Done
+}
+
+// Fills the buffer with order/2 sections, five numbers each, the lowest quality first. Refused as `judge`, with the buffer as it came.
 pub fn butterworth_sos(
     response: Response,
     order: u64,
@@ -61,25 +81,17 @@ pub fn butterworth_sos(
 ) -> Filled
     ensures { λ r. ⌜ Fills (butterworthOf response order cutoff rate (length (now (sos .entry)))) (now (sos .entry)) r (now (sos .exit)) ⌝ }
 {
-    if !takes_response(response) {
-        return Filled::Refused(Refusal::Plain(7));
+    let judged = judge(response, order, cutoff, rate, sos.len() as u64);
+    match judged {
+        Filled::Done => {
+            let sections = (order / 2) as usize;
+            for i in 0..sections {
+                let b = biquad_coefs(response, cutoff, quality(order, i as u64), rate);
+                let coefs = b.coefs;
+                put_section(&mut *sos, 5 * i, coefs);
+            }
+            Filled::Done
+        }
+        Filled::Refused(why) => Filled::Refused(why),
     }
-    if !takes_order(order) {
-        return Filled::Refused(Refusal::Plain(6));
-    }
-    let len = sos.len() as u64;
-    let expected = order / 2 * 5;
-    if len != expected {
-        return Filled::Refused(Refusal::Length(expected, len));
-    }
-    if !takes_centre(cutoff, rate) {
-        return Filled::Refused(Refusal::Range(2, 0.0, rate / 2.0, cutoff));
-    }
-    let sections = (order / 2) as usize;
-    for i in 0..sections {
-        let b = biquad_coefs(response, cutoff, quality(order, i as u64), rate);
-        let coefs = b.coefs;
-        put_section(&mut *sos, 5 * i, coefs);
-    }
-    Filled::Done
 }

@@ -18,7 +18,7 @@ use Rattle.kaiser.specs.Kaiser.{betaOf, orderOf}
 use Rattle.kaiser.specs.declared.order.Order.{Order}
 use Rattle.kaiser.specs.declared.order.Order.the-variants as Order
 use Rattle.refusal.specs.declared.Refusal.{Refusal}
-use Rattle.refusal.specs.declared.Refusal.the-variants.{Plain, Range, Length, Cap, Element}
+use Rattle.refusal.specs.declared.Refusal.the-variants as Why
 use Rattle.fir.specs.Windows.{windowAt, normOf}
 use Rattle.fir.specs.Lowpass.{lowpassOf, tapOf}
 use Rattle.fir.specs.declared.window.Window.the-variants.{Hann}
@@ -28,8 +28,12 @@ use Rattle.halfband.specs.Halfband.{lengthTaken, halfbandOf}
 use Rattle.halfband.specs.declared.HalfbandDesigned.{HalfbandDesigned}
 use Rattle.halfband.specs.declared.HalfbandDesigned.the-variants as HalfbandDesigned
 use Rattle.conversions.specs.Q15.{moved, takes, q15Of, q15TapOf}
+use Rattle.conversions.specs.Q14 as Q14
 use Rattle.conversions.specs.declared.q15.Coded.{Coded}
 use Rattle.conversions.specs.declared.q15.Coded.the-variants as Coded
+use Rattle.kaiser.specs.declared.order.Length.{Length}
+use Rattle.kaiser.specs.declared.order.Length.the-variants as Taps
+use Rattle.raised.specs.Rrc.{sampled, spanned, rrcLenOf}
 
 -- ---- tests
 -- x has the bit pattern n
@@ -38,11 +42,11 @@ is64 x n = eqb (toBits binary64 x) n
 
 -- a refusal with the number k alone
 unfoldable pub isPlain : ℕ → Refusal → Bool
-isPlain k (Plain j) = eqb j k
-isPlain k (Range j lo hi got) = false
-isPlain k (Length expected given) = false
-isPlain k (Cap n cap) = false
-isPlain k (Element i lo hi got) = false
+isPlain k (Why.Plain j) = eqb j k
+isPlain k (Why.Range j lo hi got) = false
+isPlain k (Why.Length expected given) = false
+isPlain k (Why.Cap n cap) = false
+isPlain k (Why.Element i lo hi got) = false
 
 unfoldable pub isOrder : ℕ → ℕ → Order → Bool
 isOrder n beta (Order.Taps m b) = eqb m n && is64 b beta
@@ -69,23 +73,47 @@ sameInt (pos a) (negsuc b) = false
 sameInt (negsuc a) (pos b) = false
 sameInt (negsuc a) (negsuc b) = eqb a b
 
--- a tap whose Q15 number is z
+-- a value whose Q15 or Q14 number is z
 unfoldable pub isCode : ℤ → Coded → Bool
 isCode z (Coded.Number q) = sameInt q z
 isCode z (Coded.Refused why) = false
 
 -- a refusal with 11: the element's index, and the bit patterns of the smallest, largest and offered value
 unfoldable pub isElement : ℕ → ℕ → ℕ → ℕ → Refusal → Bool
-isElement i least most offered (Plain j) = false
-isElement i least most offered (Range j lo hi got) = false
-isElement i least most offered (Length expected given) = false
-isElement i least most offered (Cap n cap) = false
-isElement i least most offered (Element j lo hi got) = eqb j i && is64 lo least && is64 hi most && is64 got offered
+isElement i least most offered (Why.Plain j) = false
+isElement i least most offered (Why.Range j lo hi got) = false
+isElement i least most offered (Why.Length expected given) = false
+isElement i least most offered (Why.Cap n cap) = false
+isElement i least most offered (Why.Element j lo hi got) = eqb j i && is64 lo least && is64 hi most && is64 got offered
 
--- a tap, element i and of the bit pattern n, that has no Q15 number
+-- a value, element i and of the bit pattern n, that has no number between the patterns least and most
+unfoldable pub isBeyond : ℕ → ℕ → ℕ → ℕ → Coded → Bool
+isBeyond least most i n (Coded.Number q) = false
+isBeyond least most i n (Coded.Refused why) = isElement i least most n why
+
+-- no Q15 number, and no Q14 number
 unfoldable pub isOutside : ℕ → ℕ → Coded → Bool
-isOutside i n (Coded.Number q) = false
-isOutside i n (Coded.Refused why) = isElement i 0xBFF0_28D5_70A3_D70A 0x3FF0_28D5_70A3_D70A n why
+isOutside i n c = isBeyond 0xBFF0_28D5_70A3_D70A 0x3FF0_28D5_70A3_D70A i n c
+
+unfoldable pub isOutside14 : ℕ → ℕ → Coded → Bool
+isOutside14 i n c = isBeyond 0xC000_0000_0000_0000 0x3FFF_FFC0_0000_0000 i n c
+
+-- a number of taps
+unfoldable pub hasTaps : ℕ → Length → Bool
+hasTaps n (Taps.Taps m) = eqb m n
+hasTaps n (Taps.Refused why) = false
+
+-- none, because a value with the bit pattern n isn't between least and most: number k
+unfoldable pub isRange : ℕ → ℕ → ℕ → ℕ → Refusal → Bool
+isRange k least most offered (Why.Plain j) = false
+isRange k least most offered (Why.Range j lo hi got) = eqb j k && is64 lo least && is64 hi most && is64 got offered
+isRange k least most offered (Why.Length expected given) = false
+isRange k least most offered (Why.Cap n cap) = false
+isRange k least most offered (Why.Element i lo hi got) = false
+
+unfoldable pub turnsLength : ℕ → ℕ → ℕ → ℕ → Length → Bool
+turnsLength k least most offered (Taps.Taps m) = false
+turnsLength k least most offered (Taps.Refused why) = isRange k least most offered why
 
 -- ---- the list
 unfoldable pub examples : List Bool
@@ -110,6 +138,13 @@ examples =
     -- 1.01 and a NaN give 11, with their index
     ∷ isOutside 4 0x3FF0_28F5_C28F_5C29 (q15TapOf 4 (fraction 101 100))
     ∷ isOutside 5 0x7FF8_0000_0000_0000 (q15TapOf 5 nan)
+    -- Q14: −2 − 2^−15 to −32768; 2 − 2^−15 gives 11
+    ∷ isCode (negsuc 32767) (Q14.q14TapOf 0 (neg (fraction 65537 32768)))
+    ∷ isOutside14 1 0x3FFF_FFE0_0000_0000 (Q14.q14TapOf 1 (fraction 65535 32768))
+    -- rrc_len: (2, 4) = 9, (1, 4) gives 6 with 2, 1024, 1, and (1024, 32) = 32769
+    ∷ hasTaps 9 (rrcLenOf 2 4)
+    ∷ turnsLength 6 0x4000_0000_0000_0000 0x4090_0000_0000_0000 0x3FF0_0000_0000_0000 (rrcLenOf 1 4)
+    ∷ hasTaps 32769 (rrcLenOf 1024 32)
     ∷ []
 
 unfoldable pub all : List Bool → Bool
@@ -117,5 +152,5 @@ all [] = true
 all (b ∷ bs) = b && all bs
 
 pub examples-hold : T (all examples)
-unfolding all examples is64 isPlain isOrder firstTap turnsDown turnsHalfband sameInt isCode isElement isOutside sqrtOf seriesOf orderOf lowpassOf tapOf halfbandOf lengthTaken moved takes q15Of q15TapOf betaOf pow04Of ofBits toBits ofInt round add sub mul div neg lt le eq ne toUnsigned positive floorOf ceilOf absOf asFloat floorZ ceilZ sinOf cosOf windowAt normOf sumTo fact over nested
+unfolding all examples is64 isPlain isOrder firstTap turnsDown turnsHalfband sameInt isCode isElement isBeyond isOutside isOutside14 hasTaps isRange turnsLength sqrtOf seriesOf orderOf lowpassOf tapOf halfbandOf lengthTaken moved takes q15Of q15TapOf Q14.moved Q14.takes Q14.q14Of Q14.q14TapOf sampled spanned rrcLenOf betaOf pow04Of ofBits toBits ofInt round add sub mul div neg lt le eq ne toUnsigned positive floorOf ceilOf absOf asFloat floorZ ceilZ sinOf cosOf windowAt normOf sumTo fact over nested
 examples-hold = tt

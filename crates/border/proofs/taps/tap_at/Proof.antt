@@ -24,6 +24,12 @@ enum-known-source-3 c = search needs
 kept-tap-requires-3 : tie.Need-kept-tap-requires-3
 kept-tap-requires-3 c κs = search needs
 
+enum-known-source-4 : tie.Need-enum-known-source-4
+enum-known-source-4 c = search needs
+
+tap-requires : tie.Need-tap-requires
+tap-requires c κs = search needs
+
 returns : tie.Need-returns
 returns c k =
     let g = c .before .before .source .given in
@@ -42,6 +48,11 @@ returns-3 c k =
     let a = c .before .before .before .before .before .args in
     c .kept-tap3 .ensures (subst (λ (s : Source). KeptFor s (a .raws .now)) (g .1) k) ∙ sym (ap (λ (s : Source). tapAt s (a .i)) (g .1))
 
+returns-4 : tie.Need-returns-4
+returns-4 c k =
+    let g = c .before .before .source4 .given in
+    c .tap .ensures ∙ sym (ap (λ (s : Source). tapAt s (c .before .before .before .before .before .args .i)) (g .1))
+
 pub tap-at-spec : {M : Type 1} → statement M
 tap-at-spec =
     tie.close
@@ -52,6 +63,9 @@ tap-at-spec =
     kept-tap-requires-2
     enum-known-source-3
     kept-tap-requires-3
+    enum-known-source-4
+    tap-requires
     returns
     returns-2
-    returns-3)
+    returns-3
+    returns-4)

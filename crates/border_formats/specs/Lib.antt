@@ -1,0 +1,5 @@
+pub mod Reports
+pub mod Formats
+pub mod FormatLaws
+pub mod Conversions
+pub mod ConversionLaws

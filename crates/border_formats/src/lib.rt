@@ -1,0 +1,5 @@
+// What C and Rust programs call to convert f64s to Q15, Q14 and f32.
+pub mod buffers;
+mod convert;
+mod element;
+pub mod single;

@@ -1,0 +1,62 @@
+// A window as the bytes of a buffer: one loop for every shape and sample.
+use super::codes::Coded;
+use super::codes::symmetry_of;
+use super::sample::Sample;
+use super::sample::store;
+use super::sample::width;
+use refusal::Refusal;
+use refusal::Report;
+use windows::shape::Shape;
+use windows::shape::argument_of;
+use windows::shape::divisor;
+use windows::shape::norm;
+use windows::shape::place_at;
+use windows::shape::takes_shape;
+use windows::shape::value_at;
+ghost use mathlib.Core.Path.{_≡_};
+ghost use Prim.Native.Nat.{_/_, _%_};
+ghost use lib.ListN.{length};
+ghost use Rattle.laws.specs.Chunks.{chunks};
+ghost use Rattle.windows.specs.Shapes.{sampleAt};
+ghost use Rattle.border_windows.specs.Codes.{symmetryOf};
+ghost use Rattle.border_windows.specs.Samples.{widthOf, sampleBytes, windowBytes, WritesSamples};
+
+// Fills a buffer of whole samples, sample i at its place. While sample i is worked out from its argument, the argument of the next and the first step of the one after it are already under way: where Kaiser's series ends is a branch that a processor foretells wrongly, and only what stands before it is worked out alongside the series.
+fn put_samples(shape: Shape, i0: f64, d: u64, sample: Sample, out: &mut [u8])
+    requires { ⌜ length (now out) % widthOf sample ≡ 0 ⌝ }
+    ensures { λ _. ⌜ now (out .exit) ≡ chunks (length (now (out .entry)) / widthOf sample) (λ i. sampleBytes sample (sampleAt shape i0 d i)) ⌝ }
+{
+    let wide = width(sample) as usize;
+    let n = out.len() / wide;
+    let mut x = argument_of(shape, place_at(shape, d, 0));
+    let mut ahead = place_at(shape, d, 1);
+    for i in 0..n {
+        let next = argument_of(shape, ahead);
+        ahead = place_at(shape, d, (i + 2) as u64);
+        store(sample, &mut *out, wide * i, value_at(shape, i0, d, x));
+        x = next;
+    }
+}
+
+// Writes as many samples as the buffer has room for and tells how many as the count; tells a refusal, and leaves the buffer.
+pub(crate) fn write_window(shape: Shape, code: u64, sample: Sample, out: &mut [u8]) -> Report
+    ensures { λ r. ⌜ WritesSamples sample (windowBytes sample shape (symmetryOf code) (length (now (out .entry)))) (now (out .entry)) r (now (out .exit)) ⌝ }
+{
+    let coded = symmetry_of(code);
+    match coded {
+        Coded::Known(symmetry) => {
+            let len = out.len() as u64;
+            let wide = width(sample);
+            if len % wide != 0 {
+                return refusal::refused(Refusal::Length(len - len % wide, len));
+            }
+            if !takes_shape(shape) {
+                return refusal::refused(Refusal::Plain(4));
+            }
+            let n = len / wide;
+            put_samples(shape, norm(shape), divisor(symmetry, n), sample, &mut *out);
+            refusal::accepted(n, 0.0)
+        }
+        Coded::Unknown => refusal::refused(Refusal::Plain(7)),
+    }
+}
