@@ -1,0 +1,37 @@
+// Kinds 39 to 41: a buffer of f64s converted to Q14 and to f32.
+use border_formats::buffers::pel_to_f32;
+use border_formats::buffers::pel_to_f32_sos;
+use border_formats::buffers::pel_to_q14;
+use listed::converted;
+use listed::converted::FROM;
+use listed::converted::TO;
+use listed::lent;
+use listed::line::WORDS;
+use listed::offered;
+use listed::tally::Verdict;
+use refusal::Report;
+
+// How many bytes a number has: Q14 or f32.
+fn width(kind: usize) -> usize {
+    match kind {
+        39 => 2,
+        _ => 4,
+    }
+}
+
+fn convert(kind: usize, source: &[u8], out: &mut [u8]) -> Report {
+    match kind {
+        39 => pel_to_q14(source, &mut *out),
+        40 => pel_to_f32(source, &mut *out),
+        _ => pel_to_f32_sos(source, &mut *out),
+    }
+}
+
+pub(crate) fn judge(kind: usize, words: &[u64; WORDS], count: usize) -> Verdict {
+    let to = lent::bytes(words[TO]);
+    let from = lent::bytes(words[FROM]);
+    let source = offered::buffer(words, FROM, 8);
+    let mut out = lent::marked();
+    let r = convert(kind, &source[..from], &mut out[..to]);
+    converted::judge(r, &out, words, count, width(kind))
+}

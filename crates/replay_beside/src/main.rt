@@ -1,0 +1,55 @@
+// Replays the stored list of the Rust's answers to the kinds from 32 on, what stands beside the chain: what the port answers to the same questions is compared with them by bits.
+
+mod converted;
+mod level;
+mod names;
+mod told;
+mod written;
+
+use listed::line::TEXT;
+use listed::line::WORDS;
+use listed::source;
+use listed::tally;
+use listed::tally::COUNTS;
+use listed::tally::Tally;
+use listed::tally::Verdict;
+
+// What the port says to a line's words, by the group that has its kind.
+fn judge(kind: usize, words: &[u64; WORDS], count: usize) -> Verdict {
+    match kind {
+        32 | 33 | 38 => told::judge(kind, words, count),
+        34..=37 | 42..=47 => written::judge(kind, words, count),
+        39..=41 => converted::judge(kind, words, count),
+        48 => level::judge(words, count),
+        _ => Verdict::Unreadable,
+    }
+}
+
+// Judges every line. The turns are counted down for the same reason as in listed::source.
+fn judge_all(counts: &mut [u64; COUNTS]) -> Tally {
+    let mut chunk = io::buffer();
+    let mut text = [0u8; TEXT];
+    let mut words = [0u64; WORDS];
+    let mut s = source::begun();
+    let mut t = tally::begun();
+    let mut turns = u64::MAX;
+    while turns > 0 {
+        s = source::next_line(s, &mut chunk, &mut text, &mut words);
+        if s.done {
+            break;
+        }
+        let verdict = judge(s.kind, &words, s.count);
+        t = tally::note(t, s.kind, verdict, counts);
+        turns -= 1;
+    }
+    t
+}
+
+fn main() {
+    let mut counts = [0u64; COUNTS];
+    let t = judge_all(&mut counts);
+    names::designs(&counts);
+    names::formats(&counts);
+    names::windows(&counts);
+    tally::total(t);
+}

@@ -1,0 +1,80 @@
+// Kinds 34 to 37 and 42 to 47: pulses, sections and windows that are written to a buffer, whose length in bytes is the last argument.
+ghost use Prim.Native.Nat.{_≤_};
+use border::cosine::pel_rrc;
+use border_sections::cascade::pel_butterworth_sos;
+use border_sections::section::pel_biquad_coefs;
+use border_sections::section::pel_preemphasis_coefs;
+use border_windows::samples::pel_blackman_harris_f32;
+use border_windows::samples::pel_blackman_harris_q15;
+use border_windows::samples::pel_hann_f32;
+use border_windows::samples::pel_hann_q15;
+use border_windows::samples::pel_kaiser_f32;
+use border_windows::samples::pel_kaiser_q15;
+use listed::lent;
+use listed::line::WORDS;
+use listed::pattern::float_at;
+use listed::tally::Verdict;
+use listed::written;
+use refusal::Report;
+
+// The index of the length in bytes.
+fn length_at(kind: usize) -> usize
+    ensures { λ r. ⌜ r ≤ 5 ⌝ }
+{
+    match kind {
+        34 => 3,
+        35 | 36 => 4,
+        37 | 46 | 47 => 2,
+        _ => 1,
+    }
+}
+
+// How many bytes an element has: f64s, f32s or Q15 numbers.
+fn width(kind: usize) -> usize {
+    match kind {
+        34..=37 => 8,
+        42 | 44 | 46 => 4,
+        _ => 2,
+    }
+}
+
+fn section(kind: usize, words: &[u64; WORDS], out: &mut [u8]) -> Report {
+    let response = words[0];
+    let rate = float_at(words, 3);
+    match kind {
+        35 => {
+            let centre = float_at(words, 1);
+            let q = float_at(words, 2);
+            pel_biquad_coefs(response, centre, q, rate, &mut *out)
+        }
+        _ => pel_butterworth_sos(response, words[1], float_at(words, 2), rate, &mut *out),
+    }
+}
+
+fn window(kind: usize, words: &[u64; WORDS], out: &mut [u8]) -> Report {
+    match kind {
+        42 => pel_hann_f32(words[0], &mut *out),
+        43 => pel_hann_q15(words[0], &mut *out),
+        44 => pel_blackman_harris_f32(words[0], &mut *out),
+        45 => pel_blackman_harris_q15(words[0], &mut *out),
+        46 => pel_kaiser_f32(float_at(words, 0), words[1], &mut *out),
+        _ => pel_kaiser_q15(float_at(words, 0), words[1], &mut *out),
+    }
+}
+
+fn write(kind: usize, words: &[u64; WORDS], out: &mut [u8]) -> Report {
+    match kind {
+        34 => pel_rrc(float_at(words, 0), words[1], words[2], &mut *out),
+        35 | 36 => section(kind, words, &mut *out),
+        37 => pel_preemphasis_coefs(float_at(words, 0), float_at(words, 1), &mut *out),
+        _ => window(kind, words, &mut *out),
+    }
+}
+
+pub(crate) fn judge(kind: usize, words: &[u64; WORDS], count: usize) -> Verdict {
+    let last = length_at(kind);
+    let bytes = lent::bytes(words[last]);
+    let mut out = lent::marked();
+    let r = write(kind, words, &mut out[..bytes]);
+    written::judge_elements(r, &out, words, last, count, width(kind))
+}
