@@ -3,8 +3,10 @@ CC ?= cc
 CFLAGS ?= -O2
 STRICT = -std=c11 -Wall -Wextra -Werror -Iinclude
 CHECKED = -g -O1 -fsanitize=address,undefined -fno-sanitize-recover=all
-LIB = target/staticlib/libborder.a
-DESIGN = tools/design.c tools/kinds.c tools/words.c
+LIB = target/lib/libpeldozkar.a
+# The crates with exports: each makes one object, and the library holds them all.
+EXPORTS = border border_formats border_sections border_windows
+DESIGN = tools/design.c tools/kinds.c tools/forms.c tools/words.c
 SOURCES = $(shell find crates -name '*.rt' -o -name '*.antt') crates.txt
 
 .PHONY: run functions test lib c tool compare bench list distance clean
@@ -26,19 +28,21 @@ test:
 lib: $(LIB)
 
 $(LIB): $(SOURCES)
-	mkdir -p target
-	rt staticlib border >target/staticlib.log 2>&1 || { cat target/staticlib.log; exit 1; }
+	mkdir -p target/lib
+	rm -f target/lib/*
+	for crate in $(EXPORTS); do rt staticlib $$crate >target/staticlib.log 2>&1 || { cat target/staticlib.log; exit 1; }; (cd target/lib && ar x ../staticlib/lib$$crate.a $$crate.o) || exit 1; done
+	cd target/lib && ar rcs libpeldozkar.a $(EXPORTS:=.o)
 
 target/tools/design target/tools/functions: target/tools/%: tools/%.c include/peldozkar.h $(LIB)
 	mkdir -p target/tools
 	$(CC) $(CFLAGS) $(STRICT) $(filter %.c,$^) -o $@ $(LIB)
 
-target/tools/design: $(DESIGN) tools/kinds.h tools/words.h
+target/tools/design: $(DESIGN) tools/kinds.h tools/forms.h tools/words.h
 
 # The exports called from C, under the address and undefined-behaviour sanitizers.
 c: $(LIB)
 	mkdir -p target/tests
-	for name in elementary designs halfband pulses channelizer q15; do $(CC) $(STRICT) $(CHECKED) tests/c/$$name.c -o target/tests/$$name $(LIB) -lm && target/tests/$$name || exit 1; done
+	for name in elementary designs halfband pulses channelizer sections q15 formats windows; do $(CC) $(STRICT) $(CHECKED) tests/c/$$name.c -o target/tests/$$name $(LIB) -lm && target/tests/$$name || exit 1; done
 
 # The command line of `make run`, and once more with a tap that Q15 can't take.
 tool: target/tools/design
@@ -54,11 +58,12 @@ compare: $(LIB)
 bench: $(LIB)
 	tests/differential/run bench
 
-# The stored lists that the programs `replay` (kinds up to 20) and `replay_kinds` (the others) hold the port to: answers of the Rust side alone.
+# The stored lists that the programs `replay` (kinds up to 20), `replay_kinds` (21 to 31) and `replay_beside` (32 on) hold the port to: answers of the Rust side alone.
 list: $(LIB)
 	tests/differential/run list >target/list
 	awk '$$1 <= 20' target/list >crates/replay/stdin
-	awk '$$1 > 20' target/list >crates/replay_kinds/stdin
+	awk '$$1 > 20 && $$1 <= 31' target/list >crates/replay_kinds/stdin
+	awk '$$1 > 31' target/list >crates/replay_beside/stdin
 
 # The elementary functions against the crate libm (Debian: librust-libm-dev).
 distance:

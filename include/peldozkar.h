@@ -1,7 +1,7 @@
 /* Peldozkar's filter designer: the functions that firmware calls.
  *
- * Link with libborder.a, which `rt staticlib border` writes. Each function is proved to give the value
- * that is said here for every argument, NaN, infinities, zeros of both signs, subnormal numbers and
+ * Link with libpeldozkar.a, which `make lib` writes. Each function is proved to give the value that is
+ * said here for every argument, NaN, infinities, zeros of both signs, subnormal numbers and
  * impossible counts included; it allocates nothing, keeps nothing, calls nothing and always returns.
  * On the stack pel_lowpass, pel_spec_design, pel_halfband, pel_gaussian and pel_channelizer_prototype take
  * under 9 KB, the others under 1 KB (x86-64).
@@ -59,16 +59,16 @@ double pel_pow04(double v);
  *
  *   number  who caused it            what is wrong
  *   1       the ticket's author      the rate
- *   2                                the cutoff or a band edge
+ *   2                                the cutoff, the centre or a band edge
  *   3                                the transition, or a length past 2^24 taps
  *   4                                the attenuation or beta
- *   5                                the bandwidth bt
- *   6                                a count: taps, span, samples, channels or branch
- *   7                                an unknown window code
+ *   5                                the bandwidth bt, the roll-off, the quality q or the time constant
+ *   6                                a count: taps, order, span, samples, channels or branch
+ *   7                                an unknown code, or a response that a Butterworth filter hasn't
  *   8       the host program         the buffer's length
  *   9                                max_taps is below the number of taps needed
  *   10      arithmetic               the sum that the taps are divided by is 0 or not finite
- *   11                               an element that Q15 can't take
+ *   11                               an element that Q15 or Q14 can't take
  */
 typedef struct {
     uint32_t number;
@@ -80,7 +80,7 @@ typedef struct {
     uint64_t given;    /* PEL_LENGTH: the length given;    PEL_CAP: max_taps */
     uint64_t index;    /* PEL_ELEMENT: the element's index */
     uint64_t count;    /* accepted: the number of taps, terms, samples or elements */
-    double value;      /* accepted: a divisor, a beta, a sum or a Q15 number */
+    double value;      /* accepted: a divisor, a factor, a beta, a sum, or a Q15 or Q14 number */
 } pel_report;
 
 enum { PEL_NOTHING = 0, PEL_RANGE = 1, PEL_LENGTH = 2, PEL_CAP = 3, PEL_ELEMENT = 4 };
@@ -180,6 +180,23 @@ pel_report pel_gaussian(double bt, uint64_t samples, uint64_t span, uint8_t *out
 /* The same judgement without a buffer. */
 pel_report pel_gaussian_new(double bt, uint64_t samples, uint64_t span);
 
+/* The root-raised-cosine pulse, samples * span + 1 taps, times the factor that makes their energy 1:
+ * `rolloff`, `samples` those of a symbol, `span` the length in symbols. Accepted: count is the number of
+ * taps, value the factor. Refused, in this order, with `out` as it came:
+ *   8   bytes isn't a multiple of 8, both figures in bytes
+ *   5   (0.05, 1, rolloff)
+ *   6   (2, 1024, samples)
+ *   6   (4, 32, span)
+ *   8   the buffer isn't that many taps: expected and given in taps
+ * Mind that the Gaussian tests the span first. Example: (0.5, 8, 8) has 65 taps. */
+pel_report pel_rrc(double rolloff, uint64_t samples, uint64_t span, uint8_t *out, size_t bytes);
+
+/* The same judgement without a buffer. */
+pel_report pel_rrc_new(double rolloff, uint64_t samples, uint64_t span);
+
+/* How many taps (count) it has: span * samples + 1. Refused: 6, 6 as pel_rrc. Example: (2, 4) has 9. */
+pel_report pel_rrc_len(uint64_t samples, uint64_t span);
+
 /* ---- Channelizer ------------------------------------------------------------------------------ */
 
 /* How many taps (count) Kaiser's estimate has for band edges in channel spacings, not made odd; and how
@@ -209,7 +226,42 @@ pel_report pel_channelizer_prototype(uint64_t channels, uint64_t branch, double 
 pel_report pel_channelizer_lowpass(uint64_t channels, uint64_t branch, double passband, double stopband,
                                    double attenuation);
 
-/* ---- Q15 -------------------------------------------------------------------------------------- */
+/* ---- Sections --------------------------------------------------------------------------------- */
+
+enum { PEL_LOWPASS = 0, PEL_HIGHPASS = 1, PEL_BANDPASS = 2, PEL_NOTCH = 3 };
+
+/* One second-order section of the RBJ Audio EQ Cookbook: b0, b1, b2, a1, a2 with a0 = 1, eight bytes each,
+ * 40 in all. Accepted: count is 5. Refused, in this order, with `out` as it came:
+ *   7   an unknown response
+ *   8   bytes isn't 40: expected 40, given, in bytes
+ *   2   (0, rate/2, centre) where the centre isn't between 0 and half of a finite rate; a bad rate is 2 too
+ *   5   (0, infinity, q) where the quality isn't finite and positive
+ * Extreme numbers can give NaN coefficients, as the formulas do: they are accepted.
+ * Example: a high-pass at a quarter of the rate with q = 0.5 has b0, b1, b2 = 0.25, -0.5, 0.25. */
+pel_report pel_biquad_coefs(uint64_t response, double centre, double q, double rate, uint8_t *out, size_t bytes);
+
+/* A Butterworth low-pass or high-pass of an even order as order/2 such sections, one after the other, that
+ * of the lowest quality first.
+ * Accepted: count is the number of coefficients, 5 order/2. Refused, in this order, with `out` as it came:
+ *   7   an unknown response
+ *   8   bytes isn't a multiple of 8, both figures in bytes
+ *   7   a band-pass or a notch
+ *   6   an order that isn't 2, 4, 6 or 8
+ *   8   the buffer isn't 5 order/2 numbers: expected and given in numbers
+ *   2   (0, rate/2, cutoff) as pel_biquad_coefs
+ * Example: order 4 needs 80 bytes. */
+pel_report pel_butterworth_sos(uint64_t response, uint64_t order, double cutoff, double rate, uint8_t *out,
+                               size_t bytes);
+
+/* First-order pre-emphasis with the time constant `tau` in seconds: b0, b1, a1 with a0 = 1, eight bytes
+ * each, 24 in all. Accepted: count is 3. Refused, in this order, with `out` as it came:
+ *   8   bytes isn't 24: expected 24, given, in bytes
+ *   5   (0, 0.001, tau) where tau isn't above 0 and at most 0.001
+ *   1   (40000, infinity, rate) where the rate isn't finite and at least 40000
+ * A rate above half of the largest double gives NaN coefficients: it is accepted. */
+pel_report pel_preemphasis_coefs(double tau, double rate, uint8_t *out, size_t bytes);
+
+/* ---- Coefficients in other formats ------------------------------------------------------------ */
 
 /* floor(32768 x + 0.5), held to -32768 and 32767; 0 for a NaN. So halves go up: 2^-16 gives 1, -2^-16
  * gives 0. */
@@ -220,15 +272,65 @@ int16_t pel_q15_from_f64(double x);
  * -32768, 1.01 is refused. */
 pel_report pel_q15_tap(double tap);
 
-/* Converts taps, eight bytes each, to Q15 numbers, two bytes each, little-endian both. Accepted: count is
- * how many. Refused, in this order:
+/* One coefficient as a Q2.14 number (value), floor(16384 x + 0.5). Refused: 11 with the index 0 and
+ * (-2, 2 - 1/16384, x) where that floor isn't in -32768 to 32767, or for a NaN; nothing is held to an end.
+ * Example: -2 - 2^-15 gives -32768, 2 - 2^-15 is refused. */
+pel_report pel_q14_from_f64(double x);
+
+/* Converts coefficients, eight bytes each, to another format, little-endian both: to Q15 in two bytes, to
+ * Q14 in two, to the nearest float (ties to even; infinity beyond the largest, 7FC00000 for a NaN) in four.
+ * pel_to_q14 and pel_to_f32_sos take whole sections, five numbers each. Accepted: count is how many
+ * numbers. Refused, in this order:
  *   8   source_bytes isn't a multiple of 8, both figures in bytes
- *   8   bytes isn't a multiple of 2, both figures in bytes
- *   8   the destination isn't for as many elements: expected and given in elements
- *   11  the first element that isn't taken, as pel_q15_tap, with its index
- * An 8 leaves `out` as it came. An 11 keeps the elements before its index and leaves the rest as it came.
+ *   8   bytes isn't whole numbers of the format, both figures in bytes
+ *   8   (pel_to_q14, pel_to_f32_sos) the source isn't whole sections: expected the multiple of five below,
+ *       given, in numbers
+ *   8   the destination isn't for as many numbers: expected and given in numbers
+ *   11  (pel_to_q15, pel_to_q14) the first number that isn't taken, as pel_q15_tap or pel_q14_from_f64,
+ *       with its index, counted from the first number of all
+ * An 8 leaves `out` as it came. An 11 keeps the numbers before its index and leaves the rest as it came.
  * Source and destination must not overlap. */
 pel_report pel_to_q15(const uint8_t *source, size_t source_bytes, uint8_t *out, size_t bytes);
+pel_report pel_to_q14(const uint8_t *source, size_t source_bytes, uint8_t *out, size_t bytes);
+pel_report pel_to_f32(const uint8_t *source, size_t source_bytes, uint8_t *out, size_t bytes);
+pel_report pel_to_f32_sos(const uint8_t *source, size_t source_bytes, uint8_t *out, size_t bytes);
+
+/* ---- Windows ---------------------------------------------------------------------------------- */
+
+enum { PEL_PERIODIC = 0, PEL_SYMMETRIC = 1 };
+
+/* As many samples of a window as the buffer has room for: floats of four bytes, or Q15 numbers of two, in
+ * which 1 is 32767. A symmetric window of one sample is 1; a periodic one of one sample has the formula's
+ * first value, which for Hann is 0 (docs/DIFFERENCES.md). An empty buffer is filled. Accepted: count is the
+ * number of samples. Refused, in this order, with `out` as it came:
+ *   7   an unknown symmetry
+ *   8   bytes isn't whole samples: expected the multiple below it, given, both in bytes
+ *   4   (Kaiser) a beta that isn't finite and not negative, also where the buffer is empty
+ * A beta above 713.98 overflows the series: the window is accepted, with NaN and 0 for samples, as the
+ * formula has it.
+ * Example: four periodic Hann samples are 0, 0.5, 1, 0.5. */
+pel_report pel_hann_f32(uint64_t symmetry, uint8_t *out, size_t bytes);
+pel_report pel_hann_q15(uint64_t symmetry, uint8_t *out, size_t bytes);
+pel_report pel_blackman_harris_f32(uint64_t symmetry, uint8_t *out, size_t bytes);
+pel_report pel_blackman_harris_q15(uint64_t symmetry, uint8_t *out, size_t bytes);
+pel_report pel_kaiser_f32(double beta, uint64_t symmetry, uint8_t *out, size_t bytes);
+pel_report pel_kaiser_q15(double beta, uint64_t symmetry, uint8_t *out, size_t bytes);
+
+/* What a window of `count` float samples does: the mean, and the noise-equivalent bandwidth in bins,
+ * n sum(w^2) / sum(w)^2. Both are 0 for no samples; samples that sum to 0 have an infinite or NaN bandwidth.
+ * `number` is 0, or 8 with PEL_LENGTH where source_bytes isn't a multiple of 4, both figures in bytes.
+ * Example: 0, 0.5, 1, 0.5 have 0.5 and 1.5. */
+typedef struct {
+    uint32_t number;
+    uint32_t carries;
+    uint64_t expected;
+    uint64_t given;
+    uint64_t count;
+    double gain;
+    double bandwidth;
+} pel_gain_report;
+
+pel_gain_report pel_window_gain(const uint8_t *source, size_t source_bytes);
 
 #ifdef __cplusplus
 }

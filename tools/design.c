@@ -1,7 +1,8 @@
-/* Designs a filter from numbers on the command line, through the C header, and prints its taps or their
- * Q15 numbers, one a line; a refusal is said in words on standard error, with its number as the exit
- * status. */
+/* Designs a filter, a section or a window from numbers on the command line, through the C header, and
+ * prints its coefficients, in the form that is asked for, one a line; a refusal is said in words on standard
+ * error, with its number as the exit status. */
 #include <inttypes.h>
+#include <stdarg.h>
 #include <stdio.h>
 #include <stdlib.h>
 #include <string.h>
@@ -13,20 +14,38 @@ enum { USAGE = 64, FAILED = 74 };
 
 /* ---- What is said ----------------------------------------------------------------------------- */
 
+/* The forms that exclude each other, as in [--q15 | --f32]. */
+static void say_forms(FILE *to, unsigned set)
+{
+    const char *name, *lead = " [";
+    for (int i = 0; (name = option_of(set, i)) != NULL; i++) {
+        fprintf(to, "%s%s", lead, name);
+        lead = " | ";
+    }
+    fputs("]\n", to);
+}
+
 /* The lines of one kind, or of all where the name is null. */
 static void usage(FILE *to, const char *name)
 {
     const char *lead = "usage:";
     for (size_t k = 0; k < KINDS; k++)
         if (name == NULL || strcmp(name, kinds[k].name) == 0) {
-            fprintf(to, "%-6s design %s %s [--q15]\n", lead, kinds[k].name, kinds[k].usage);
+            fprintf(to, "%-6s design %s %s", lead, kinds[k].name, kinds[k].usage);
+            say_forms(to, form_options(kinds[k].forms));
             lead = "";
         }
 }
 
-static int complain(const char *what, const char *word, const char *kind)
+/* What is wrong with the words, as printf has it, and the usage of the kind. */
+static int complain(const char *kind, const char *format, ...)
 {
-    fprintf(stderr, "design: %s %s\n", what, word);
+    va_list words;
+    va_start(words, format);
+    fputs("design: ", stderr);
+    vfprintf(stderr, format, words);
+    fputc('\n', stderr);
+    va_end(words);
     usage(stderr, kind);
     return USAGE;
 }
@@ -56,14 +75,10 @@ static const char *common_meaning(uint32_t number)
     }
 }
 
-/* The fewest digits that still name the number, so that 0.2 is said as 0.2. A NaN's sign is free, and
- * isn't said. */
-static void say_number(const char *before, double x)
+static void say_after(const char *before, double x)
 {
-    char text[40] = "nan";
-    for (int digits = 15; digits <= 17 && strtod(text, NULL) != x && x == x; digits++)
-        snprintf(text, sizeof text, "%.*g", digits, x);
-    fprintf(stderr, "%s%s", before, text);
+    fputs(before, stderr);
+    say_number(stderr, x);
 }
 
 /* One line in words: the number, what is wrong, and what was allowed. */
@@ -76,9 +91,9 @@ static int explain(const struct kind *k, const struct ticket *t, pel_report r)
     if (r.carries == PEL_RANGE || r.carries == PEL_ELEMENT) {
         if (r.carries == PEL_ELEMENT)
             fprintf(stderr, " (index %" PRIu64, r.index);
-        say_number(r.carries == PEL_ELEMENT ? ", smallest " : " (smallest ", r.smallest);
-        say_number(", largest ", r.largest);
-        say_number(", offered ", r.offered);
+        say_after(r.carries == PEL_ELEMENT ? ", smallest " : " (smallest ", r.smallest);
+        say_after(", largest ", r.largest);
+        say_after(", offered ", r.offered);
         fputc(')', stderr);
     }
     if (r.carries == PEL_LENGTH)
@@ -91,33 +106,9 @@ static int explain(const struct kind *k, const struct ticket *t, pel_report r)
 
 /* ---- Judge, allocate, design, print ----------------------------------------------------------- */
 
-/* Little-endian bytes as bits, whatever the machine's own order. */
-static uint64_t bits_at(const uint8_t *bytes, int width)
+/* What could not be written is no success. */
+static int written(void)
 {
-    uint64_t bits = 0;
-    for (int i = width - 1; i >= 0; i--)
-        bits = bits << 8 | bytes[i];
-    return bits;
-}
-
-static void print_tap(const uint8_t *bytes)
-{
-    uint64_t bits = bits_at(bytes, 8);
-    double x;
-    memcpy(&x, &bits, sizeof x);
-    printf("%.17g\n", x);
-}
-
-static void print_q15(const uint8_t *bytes)
-{
-    int bits = (int)bits_at(bytes, 2);
-    printf("%d\n", bits < 32768 ? bits : bits - 65536);
-}
-
-static int print_all(uint64_t n, const uint8_t *bytes, size_t width, void (*print)(const uint8_t *))
-{
-    for (uint64_t i = 0; i < n; i++)
-        print(bytes + i * width);
     if (fflush(stdout) != 0 || ferror(stdout)) {
         perror("design");
         return FAILED;
@@ -125,19 +116,26 @@ static int print_all(uint64_t n, const uint8_t *bytes, size_t width, void (*prin
     return 0;
 }
 
-/* Fills `taps`, and `codes` behind it where Q15 is wanted; nothing is printed before all of it is there. */
-static int fill_and_print(const struct kind *k, const struct ticket *t, uint64_t n, uint8_t *taps, uint8_t *codes)
+/* Fills `room`, and what is converted behind it; nothing is printed before all of it is there. */
+static int fill_and_print(const struct kind *k, const struct ticket *t, const struct form *f, size_t n, uint8_t *room)
 {
-    size_t elements = (size_t)n;
-    pel_report r = k->fill(t, taps, elements * 8);
+    uint8_t *printed = room;
+    pel_report r = k->fill(t, room, n * f->filled);
+    if (r.number == 0 && f->convert != NULL) {
+        printed = room + n * f->filled;
+        r = f->convert(room, n * f->filled, printed, n * f->converted);
+    }
     if (r.number != 0)
         return explain(k, t, r);
-    if ((t->given & Q15) == 0)
-        return print_all(n, taps, 8, print_tap);
-    r = pel_to_q15(taps, elements * 8, codes, elements * 2);
-    if (r.number != 0)
-        return explain(k, t, r);
-    return print_all(n, codes, 2, print_q15);
+    f->print(printed, n);
+    return written();
+}
+
+/* Room for so many numbers in a form, and never null for none of them; null where there isn't so much. */
+static uint8_t *room_for(uint64_t n, const struct form *f)
+{
+    size_t each = f->filled + f->converted;
+    return n > (SIZE_MAX - 1) / each ? NULL : malloc((size_t)n * each + 1);
 }
 
 static int design(const struct kind *k, struct ticket *t)
@@ -146,17 +144,23 @@ static int design(const struct kind *k, struct ticket *t)
     pel_report r = k->judge(t);
     if (r.number != 0)
         return explain(k, t, r);
-    uint8_t *room = r.count > SIZE_MAX / 10 ? NULL : malloc((size_t)r.count * 10);
+    const struct form *f = form_for(k->forms, t->given);
+    uint8_t *room = room_for(r.count, f);
     if (room == NULL) {
-        fprintf(stderr, "design: no memory for %" PRIu64 " taps\n", r.count);
+        fprintf(stderr, "design: no memory for %" PRIu64 " %s\n", r.count, k->numbers);
         return FAILED;
     }
-    int status = fill_and_print(k, t, r.count, room, room + (size_t)r.count * 8);
+    int status = fill_and_print(k, t, f, (size_t)r.count, room);
     free(room);
     return status;
 }
 
 /* ---- From words to a kind --------------------------------------------------------------------- */
+
+static unsigned options_in(const struct kind *k)
+{
+    return k->needs | k->may | form_options(k->forms);
+}
 
 /* The options of every row of a name; 0 for an unknown one. */
 static unsigned options_of(const char *name)
@@ -164,7 +168,7 @@ static unsigned options_of(const char *name)
     unsigned set = 0;
     for (size_t k = 0; k < KINDS; k++)
         if (strcmp(name, kinds[k].name) == 0)
-            set |= kinds[k].needs | kinds[k].may | Q15;
+            set |= options_in(&kinds[k]);
     return set;
 }
 
@@ -172,7 +176,7 @@ static unsigned options_of(const char *name)
 static const struct kind *row_for(const char *name, unsigned given)
 {
     for (size_t k = 0; k < KINDS; k++)
-        if (strcmp(name, kinds[k].name) == 0 && (given & ~(kinds[k].needs | kinds[k].may | Q15)) == 0)
+        if (strcmp(name, kinds[k].name) == 0 && (given & ~options_in(&kinds[k])) == 0)
             return &kinds[k];
     return NULL;
 }
@@ -190,19 +194,22 @@ int main(int argc, char **argv)
     const char *name = argv[1];
     unsigned allowed = options_of(name);
     if (allowed == 0)
-        return complain("unknown kind", name, NULL);
+        return complain(NULL, "unknown kind %s", name);
 
-    struct ticket t = {.window = PEL_HAMMING, .max_taps = 1 << 24};
+    struct ticket t = {.window = PEL_HAMMING, .max_taps = 1 << 24, .symmetry = PEL_PERIODIC};
     struct complaint wrong = take_words(argc - 2, argv + 2, allowed, &t);
     if (wrong.what != NULL)
-        return complain(wrong.what, wrong.word, name);
+        return complain(name, "%s %s", wrong.what, wrong.word);
     const struct kind *k = row_for(name, t.given);
     if (k == NULL)
-        return complain("the options belong to two ways of asking for a", name, name);
+        return complain(name, "the options belong to two ways of asking for a %s", name);
+    unsigned forms = t.given & form_options(k->forms);
+    if (option_of(forms, 1) != NULL)
+        return complain(name, "%s and %s exclude each other", option_of(forms, 0), option_of(forms, 1));
     /* Kaiser's window is the only one with a shape to give. */
     unsigned needs = k->needs | (t.window == PEL_KAISER ? BETA : 0);
-    const char *missing = first_option(needs & ~t.given);
+    const char *missing = option_of(needs & ~t.given, 0);
     if (missing != NULL)
-        return complain("missing:", missing, name);
+        return complain(name, "missing: %s", missing);
     return design(k, &t);
 }

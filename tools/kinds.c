@@ -1,9 +1,22 @@
-/* The kinds of filter: for each the exports that judge and fill it, and what a refusal means for it. */
+/* The kinds of coefficients: for each the exports that judge and fill it, and what a refusal means for it. */
 #include "kinds.h"
 
 #include <inttypes.h>
 #include <stdbool.h>
 #include <stdio.h>
+
+/* Said of more kinds than one. */
+static const char bad_beta[] = "beta must be finite and not negative";
+static const char bad_samples[] = "the samples of a symbol are out of range";
+static const char bad_span[] = "the span, in symbols, is out of range";
+static const char not_q14[] = "Q14 can't take a coefficient";
+
+static pel_report counted(uint64_t n)
+{
+    return (pel_report){.count = n};
+}
+
+/* ---- Low-pass and half-band filters ------------------------------------------------------------ */
 
 static pel_report judge_lowpass(struct ticket *t)
 {
@@ -22,7 +35,7 @@ static const char *mean_lowpass(const struct ticket *t, const pel_report *r)
     case 2:
         return "the cutoff must lie above 0 and below half the rate";
     case 4:
-        return "beta must be finite and not negative";
+        return bad_beta;
     case 6:
         return "the number of taps must be from 1 to 2^24";
     default:
@@ -79,7 +92,7 @@ static const char *mean_halfband(const struct ticket *t, const pel_report *r)
     bool by_transition = (t->given & TRANSITION) != 0;
     switch (r->number) {
     case 4:
-        return by_transition ? NULL : "beta must be finite and not negative";
+        return by_transition ? NULL : bad_beta;
     case 6:
         if (by_transition)
             return "these numbers ask for more than 2^24 taps";
@@ -88,6 +101,8 @@ static const char *mean_halfband(const struct ticket *t, const pel_report *r)
         return NULL;
     }
 }
+
+/* ---- Pulses ------------------------------------------------------------------------------------ */
 
 static pel_report judge_gaussian(struct ticket *t)
 {
@@ -106,11 +121,36 @@ static const char *mean_gaussian(const struct ticket *t, const pel_report *r)
     case 5:
         return "the bandwidth bt, in symbol rates, is out of range";
     case 6: /* the samples' own largest is above two million */
-        return r->largest == 8.0 ? "the span, in symbols, is out of range" : "the samples of a symbol are out of range";
+        return r->largest == 8.0 ? bad_span : bad_samples;
     default:
         return NULL;
     }
 }
+
+static pel_report judge_rrc(struct ticket *t)
+{
+    return pel_rrc_new(t->rolloff, t->samples, t->span);
+}
+
+static pel_report fill_rrc(const struct ticket *t, uint8_t *out, size_t bytes)
+{
+    return pel_rrc(t->rolloff, t->samples, t->span, out, bytes);
+}
+
+static const char *mean_rrc(const struct ticket *t, const pel_report *r)
+{
+    (void)t;
+    switch (r->number) {
+    case 5:
+        return "the roll-off is out of range";
+    case 6: /* the samples' own largest is 1024 */
+        return r->largest == 32.0 ? bad_span : bad_samples;
+    default:
+        return NULL;
+    }
+}
+
+/* ---- Channelizer ------------------------------------------------------------------------------- */
 
 static pel_report judge_channelizer(struct ticket *t)
 {
@@ -152,15 +192,159 @@ static const char *mean_channelizer(const struct ticket *t, const pel_report *r)
     }
 }
 
+/* ---- Sections ---------------------------------------------------------------------------------- */
+
+static pel_report judge_biquad(struct ticket *t)
+{
+    (void)t;
+    return counted(5);
+}
+
+static pel_report fill_biquad(const struct ticket *t, uint8_t *out, size_t bytes)
+{
+    return pel_biquad_coefs(t->response, t->centre, t->q, t->rate, out, bytes);
+}
+
+static const char *mean_biquad(const struct ticket *t, const pel_report *r)
+{
+    (void)t;
+    switch (r->number) {
+    case 2:
+        return "the centre must lie above 0 and below half of a finite rate";
+    case 5:
+        return "the quality q must be finite and positive";
+    case 11:
+        return not_q14;
+    default:
+        return NULL;
+    }
+}
+
+/* An empty buffer is refused with the numbers that it should have, where the response and the order are good. */
+static pel_report judge_butterworth(struct ticket *t)
+{
+    uint8_t nothing = 0;
+    pel_report r = pel_butterworth_sos(t->response, t->order, t->cutoff, t->rate, &nothing, 0);
+    return r.number == 8 ? counted(r.expected) : r;
+}
+
+static pel_report fill_butterworth(const struct ticket *t, uint8_t *out, size_t bytes)
+{
+    return pel_butterworth_sos(t->response, t->order, t->cutoff, t->rate, out, bytes);
+}
+
+static const char *mean_butterworth(const struct ticket *t, const pel_report *r)
+{
+    (void)t;
+    switch (r->number) {
+    case 2:
+        return "the cutoff must lie above 0 and below half of a finite rate";
+    case 6:
+        return "the order must be 2, 4, 6 or 8";
+    case 7:
+        return "a Butterworth filter is a low-pass or a high-pass";
+    case 11:
+        return not_q14;
+    default:
+        return NULL;
+    }
+}
+
+static pel_report judge_preemphasis(struct ticket *t)
+{
+    (void)t;
+    return counted(3);
+}
+
+static pel_report fill_preemphasis(const struct ticket *t, uint8_t *out, size_t bytes)
+{
+    return pel_preemphasis_coefs(t->tau, t->rate, out, bytes);
+}
+
+static const char *mean_preemphasis(const struct ticket *t, const pel_report *r)
+{
+    (void)t;
+    switch (r->number) {
+    case 1:
+        return "the rate must be finite, and 40 kHz or more";
+    case 5:
+        return "the time constant tau must be above 0, and a millisecond or less";
+    default:
+        return NULL;
+    }
+}
+
+/* ---- Windows ----------------------------------------------------------------------------------- */
+
+/* Nothing of a window's numbers is refused but Kaiser's beta, and memory sets the only limit to its samples. */
+static pel_report judge_window(struct ticket *t)
+{
+    return counted(t->samples);
+}
+
+/* beta is judged for an empty buffer too. */
+static pel_report judge_kaiser(struct ticket *t)
+{
+    uint8_t nothing = 0;
+    pel_report r = pel_kaiser_f32(t->beta, t->symmetry, &nothing, 0);
+    return r.number == 0 ? judge_window(t) : r;
+}
+
+static bool as_q15(const struct ticket *t)
+{
+    return (t->given & Q15) != 0;
+}
+
+static pel_report fill_hann(const struct ticket *t, uint8_t *out, size_t bytes)
+{
+    return (as_q15(t) ? pel_hann_q15 : pel_hann_f32)(t->symmetry, out, bytes);
+}
+
+static pel_report fill_blackman_harris(const struct ticket *t, uint8_t *out, size_t bytes)
+{
+    return (as_q15(t) ? pel_blackman_harris_q15 : pel_blackman_harris_f32)(t->symmetry, out, bytes);
+}
+
+static pel_report fill_kaiser(const struct ticket *t, uint8_t *out, size_t bytes)
+{
+    return (as_q15(t) ? pel_kaiser_q15 : pel_kaiser_f32)(t->beta, t->symmetry, out, bytes);
+}
+
+static const char *mean_window(const struct ticket *t, const pel_report *r)
+{
+    (void)t;
+    return r->number == 4 ? bad_beta : NULL;
+}
+
+/* ---- The table --------------------------------------------------------------------------------- */
+
+#define WINDOW_USAGE "--samples N [--symmetry periodic|symmetric]"
+#define RESPONSE_USAGE "--response lowpass|highpass|bandpass|notch"
+
 const struct kind kinds[KINDS] = {
     {"lowpass", "--cutoff HZ --rate HZ --taps N [--window hann|hamming|blackman|kaiser] [--beta B]",
-     CUTOFF | RATE | TAPS, WINDOW | BETA, judge_lowpass, fill_lowpass, mean_lowpass},
+     CUTOFF | RATE | TAPS, WINDOW | BETA, "taps", tap_forms, judge_lowpass, fill_lowpass, mean_lowpass},
     {"spec", "--cutoff HZ --transition HZ --attenuation DB --rate HZ [--max-taps N]",
-     CUTOFF | TRANSITION | ATTENUATION | RATE, MAX_TAPS, judge_spec, fill_spec, mean_spec},
-    {"halfband", "--taps N --beta B", TAPS | BETA, 0, judge_halfband, fill_halfband, mean_halfband},
-    {"halfband", "--transition HZ --attenuation DB --rate HZ", TRANSITION | ATTENUATION | RATE, 0,
+     CUTOFF | TRANSITION | ATTENUATION | RATE, MAX_TAPS, "taps", tap_forms, judge_spec, fill_spec, mean_spec},
+    {"halfband", "--taps N --beta B", TAPS | BETA, 0, "taps", tap_forms, judge_halfband, fill_halfband, mean_halfband},
+    {"halfband", "--transition HZ --attenuation DB --rate HZ", TRANSITION | ATTENUATION | RATE, 0, "taps", tap_forms,
      judge_halfband_by_transition, fill_halfband, mean_halfband},
-    {"gaussian", "--bt X --samples N --span N", BT | SAMPLES | SPAN, 0, judge_gaussian, fill_gaussian, mean_gaussian},
+    {"gaussian", "--bt X --samples N --span N", BT | SAMPLES | SPAN, 0, "taps", tap_forms, judge_gaussian,
+     fill_gaussian, mean_gaussian},
+    {"rrc", "--rolloff X --samples N --span N", ROLLOFF | SAMPLES | SPAN, 0, "taps", tap_forms, judge_rrc, fill_rrc,
+     mean_rrc},
     {"channelizer", "--channels N [--branch N] --passband X --stopband X --attenuation DB",
-     CHANNELS | PASSBAND | STOPBAND | ATTENUATION, BRANCH, judge_channelizer, fill_channelizer, mean_channelizer},
+     CHANNELS | PASSBAND | STOPBAND | ATTENUATION, BRANCH, "taps", tap_forms, judge_channelizer, fill_channelizer,
+     mean_channelizer},
+    {"biquad", RESPONSE_USAGE " --centre HZ --q Q --rate HZ", RESPONSE | CENTRE | QUALITY | RATE, 0, "coefficients",
+     section_forms, judge_biquad, fill_biquad, mean_biquad},
+    {"butterworth", RESPONSE_USAGE " --order N --cutoff HZ --rate HZ", RESPONSE | ORDER | CUTOFF | RATE, 0,
+     "coefficients", section_forms, judge_butterworth, fill_butterworth, mean_butterworth},
+    {"preemphasis", "--tau SECONDS --rate HZ", TAU | RATE, 0, "coefficients", preemphasis_forms, judge_preemphasis,
+     fill_preemphasis, mean_preemphasis},
+    {"hann", WINDOW_USAGE, SAMPLES, SYMMETRY, "samples", window_forms, judge_window, fill_hann, mean_window},
+    {"blackman-harris", WINDOW_USAGE, SAMPLES, SYMMETRY, "samples", window_forms, judge_window, fill_blackman_harris,
+     mean_window},
+    {"kaiser", "--beta B " WINDOW_USAGE, BETA | SAMPLES, SYMMETRY, "samples", window_forms, judge_kaiser, fill_kaiser,
+     mean_window},
 };

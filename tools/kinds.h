@@ -1,26 +1,29 @@
-/* The kinds of filter that the command line can ask for: their options, and the exports behind them. */
+/* The kinds of coefficients that the command line can ask for: their options, and the exports behind them. */
 #ifndef KINDS_H
 #define KINDS_H
 
 #include <stddef.h>
 #include <stdint.h>
 
+#include "forms.h"
 #include "peldozkar.h"
 #include "words.h"
 
-/* One way to ask for a filter. Two rows of a name are two sets of options for one kind. */
+/* One way to ask for coefficients. Two rows of a name are two sets of options for one kind. */
 struct kind {
     const char *name, *usage;
-    unsigned needs, may; /* options that must stand, and those that may besides */
-    /* The ticket's judgement, with the number of taps as the count. What the options leave open, such as
-     * a length, is put into the ticket. */
+    unsigned needs, may;      /* options that must stand, and those that may besides */
+    const char *numbers;      /* what the numbers are called, */
+    const struct form *forms; /* and the forms that they can be printed in */
+    /* The ticket's judgement, with how many numbers there are as the count. What the options leave open,
+     * such as a length, is put into the ticket. */
     pel_report (*judge)(struct ticket *t);
     pel_report (*fill)(const struct ticket *t, uint8_t *out, size_t bytes);
     /* What a refusal means for this kind; null where it means the same for every kind. */
     const char *(*meaning)(const struct ticket *t, const pel_report *r);
 };
 
-enum { KINDS = 6 };
+enum { KINDS = 13 };
 extern const struct kind kinds[KINDS];
 
 #endif

@@ -1,5 +1,5 @@
 /* Takes the words of a command line apart into a ticket. A word that isn't wholly a number, a count or a
- * window's name is turned down here; whether the number is a good one is the designer's to judge. */
+ * known name is turned down here; whether the number is a good one is the designer's to judge. */
 #include "words.h"
 
 #include <ctype.h>
@@ -12,36 +12,52 @@
 
 enum reading { NUMBER, COUNT, NAME, ALONE };
 
+/* What an option can be called, in the order of the header's codes, up to a null. */
+struct names {
+    const char *unknown; /* said of another word */
+    const char *name[5];
+};
+
+static const struct names windows = {"unknown window:", {"hann", "hamming", "blackman", "kaiser"}};
+static const struct names responses = {"unknown response:", {"lowpass", "highpass", "bandpass", "notch"}};
+static const struct names symmetries = {"unknown symmetry:", {"periodic", "symmetric"}};
+
 static const struct option {
     const char *name;
     unsigned bit;
     enum reading reading;
     size_t place; /* where the ticket keeps it; nothing is kept of an option that stands alone */
+    const struct names *names;
 } options[] = {
-    {"--cutoff", CUTOFF, NUMBER, offsetof(struct ticket, cutoff)},
-    {"--rate", RATE, NUMBER, offsetof(struct ticket, rate)},
-    {"--transition", TRANSITION, NUMBER, offsetof(struct ticket, transition)},
-    {"--attenuation", ATTENUATION, NUMBER, offsetof(struct ticket, attenuation)},
-    {"--taps", TAPS, COUNT, offsetof(struct ticket, taps)},
-    {"--max-taps", MAX_TAPS, COUNT, offsetof(struct ticket, max_taps)},
-    {"--window", WINDOW, NAME, offsetof(struct ticket, window)},
-    {"--beta", BETA, NUMBER, offsetof(struct ticket, beta)},
-    {"--bt", BT, NUMBER, offsetof(struct ticket, bt)},
-    {"--samples", SAMPLES, COUNT, offsetof(struct ticket, samples)},
-    {"--span", SPAN, COUNT, offsetof(struct ticket, span)},
-    {"--channels", CHANNELS, COUNT, offsetof(struct ticket, channels)},
-    {"--branch", BRANCH, COUNT, offsetof(struct ticket, branch)},
-    {"--passband", PASSBAND, NUMBER, offsetof(struct ticket, passband)},
-    {"--stopband", STOPBAND, NUMBER, offsetof(struct ticket, stopband)},
-    {"--q15", Q15, ALONE, 0},
+    {"--cutoff", CUTOFF, NUMBER, offsetof(struct ticket, cutoff), NULL},
+    {"--rate", RATE, NUMBER, offsetof(struct ticket, rate), NULL},
+    {"--transition", TRANSITION, NUMBER, offsetof(struct ticket, transition), NULL},
+    {"--attenuation", ATTENUATION, NUMBER, offsetof(struct ticket, attenuation), NULL},
+    {"--taps", TAPS, COUNT, offsetof(struct ticket, taps), NULL},
+    {"--max-taps", MAX_TAPS, COUNT, offsetof(struct ticket, max_taps), NULL},
+    {"--window", WINDOW, NAME, offsetof(struct ticket, window), &windows},
+    {"--beta", BETA, NUMBER, offsetof(struct ticket, beta), NULL},
+    {"--bt", BT, NUMBER, offsetof(struct ticket, bt), NULL},
+    {"--rolloff", ROLLOFF, NUMBER, offsetof(struct ticket, rolloff), NULL},
+    {"--samples", SAMPLES, COUNT, offsetof(struct ticket, samples), NULL},
+    {"--span", SPAN, COUNT, offsetof(struct ticket, span), NULL},
+    {"--channels", CHANNELS, COUNT, offsetof(struct ticket, channels), NULL},
+    {"--branch", BRANCH, COUNT, offsetof(struct ticket, branch), NULL},
+    {"--passband", PASSBAND, NUMBER, offsetof(struct ticket, passband), NULL},
+    {"--stopband", STOPBAND, NUMBER, offsetof(struct ticket, stopband), NULL},
+    {"--response", RESPONSE, NAME, offsetof(struct ticket, response), &responses},
+    {"--centre", CENTRE, NUMBER, offsetof(struct ticket, centre), NULL},
+    {"--q", QUALITY, NUMBER, offsetof(struct ticket, q), NULL},
+    {"--order", ORDER, COUNT, offsetof(struct ticket, order), NULL},
+    {"--tau", TAU, NUMBER, offsetof(struct ticket, tau), NULL},
+    {"--symmetry", SYMMETRY, NAME, offsetof(struct ticket, symmetry), &symmetries},
+    {"--q15", Q15, ALONE, 0, NULL},
+    {"--q14", Q14, ALONE, 0, NULL},
+    {"--f32", F32, ALONE, 0, NULL},
+    {"--gain", GAIN, ALONE, 0, NULL},
 };
 
 enum { OPTIONS = sizeof options / sizeof options[0] };
-
-/* In the order of the header's window codes. */
-static const char *const windows[] = {"hann", "hamming", "blackman", "kaiser"};
-
-enum { WINDOWS = sizeof windows / sizeof windows[0] };
 
 /* NaN and infinities are numbers too: the designer refuses them by number. */
 static bool read_number(const char *word, double *x)
@@ -66,10 +82,10 @@ static bool read_count(const char *word, uint64_t *n)
     return true;
 }
 
-static bool read_name(const char *word, uint64_t *code)
+static bool read_name(const char *word, const struct names *names, uint64_t *code)
 {
-    for (uint64_t k = 0; k < WINDOWS; k++)
-        if (strcmp(word, windows[k]) == 0) {
+    for (uint64_t k = 0; names->name[k] != NULL; k++)
+        if (strcmp(word, names->name[k]) == 0) {
             *code = k;
             return true;
         }
@@ -86,7 +102,7 @@ static const char *read_value(const struct option *o, const char *word, struct t
     case COUNT:
         return read_count(word, place) ? NULL : "not a count from 0 to 2^64 - 1:";
     case NAME:
-        return read_name(word, place) ? NULL : "unknown window:";
+        return read_name(word, o->names, place) ? NULL : o->names->unknown;
     case ALONE:
         break;
     }
@@ -122,10 +138,10 @@ struct complaint take_words(int n, char **word, unsigned allowed, struct ticket 
     return (struct complaint){NULL, NULL};
 }
 
-const char *first_option(unsigned set)
+const char *option_of(unsigned set, int i)
 {
     for (size_t k = 0; k < OPTIONS; k++)
-        if ((options[k].bit & set) != 0)
+        if ((options[k].bit & set) != 0 && i-- == 0)
             return options[k].name;
     return NULL;
 }

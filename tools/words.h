@@ -21,13 +21,24 @@ enum {
     BRANCH = 1 << 12,
     PASSBAND = 1 << 13,
     STOPBAND = 1 << 14,
-    Q15 = 1 << 15
+    ROLLOFF = 1 << 15,
+    RESPONSE = 1 << 16,
+    CENTRE = 1 << 17,
+    QUALITY = 1 << 18,
+    ORDER = 1 << 19,
+    TAU = 1 << 20,
+    SYMMETRY = 1 << 21,
+    /* What is printed. */
+    Q15 = 1 << 22,
+    Q14 = 1 << 23,
+    F32 = 1 << 24,
+    GAIN = 1 << 25
 };
 
 /* What the options said; a value counts where its bit is in `given`, and is the caller's default elsewhere. */
 struct ticket {
-    double cutoff, rate, transition, attenuation, beta, bt, passband, stopband;
-    uint64_t taps, max_taps, window, samples, span, channels, branch;
+    double cutoff, rate, transition, attenuation, beta, bt, passband, stopband, rolloff, centre, q, tau;
+    uint64_t taps, max_taps, window, samples, span, channels, branch, response, order, symmetry;
     unsigned given;
 };
 
@@ -39,7 +50,7 @@ struct complaint {
 /* Takes the options apart; those outside `allowed` are unknown words. */
 struct complaint take_words(int n, char **word, unsigned allowed, struct ticket *t);
 
-/* The name of the first option of a set, null for the empty set. */
-const char *first_option(unsigned set);
+/* The name of option i of a set, counted from 0; null where the set has no more. */
+const char *option_of(unsigned set, int i);
 
 #endif

@@ -50,5 +50,6 @@ static inline int tally(const char *name)
 }
 
 #define EXPECT(call, want) expect(#call, call, want)
+#define COUNT(array) (sizeof array / sizeof array[0])
 
 #endif

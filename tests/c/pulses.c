@@ -1,10 +1,12 @@
-/* Calls the Gaussian exports from C: taps against the formula, every refusal with what it carries, and
- * the order of refusals. */
+/* Calls the exports of pulses from C, the Gaussian's and the root-raised-cosine's: taps against the formula,
+ * every refusal with what it carries, and the order of refusals. */
 #include "ticket.h"
 
 #include "straight.h"
 
 static const double inf = INFINITY, quiet = NAN;
+
+/* ---- Gaussian ---------------------------------------------------------------------------------- */
 
 /* (2^24 - 1)/span rounded down, for a span of 2 to 8 symbols. */
 static uint64_t most_samples(uint64_t span)
@@ -118,14 +120,205 @@ static void orders(void)
                 }
 }
 
+/* ---- Root-raised-cosine ------------------------------------------------------------------------ */
+
+enum { LONGEST = 1024 * 32 + 1 };
+
+static double rrc_want[LONGEST];
+
+/* The sum of products of taps so far from each other; the energy at 0. */
+static double correlation(uint64_t n, uint64_t distance)
+{
+    long double sum = 0.0L;
+    for (uint64_t i = distance; i < n; i++)
+        sum += (long double)tap(i) * tap(i - distance);
+    return (double)sum;
+}
+
+/* Within `most` of the formula: 1e-12 away from where it is 0/0. */
+static void rrc_within(double rolloff, uint64_t samples, uint64_t span, double most)
+{
+    uint64_t n = samples * span + 1;
+    char what[80];
+    snprintf(what, sizeof what, "root-raised-cosine (%.17g, %d, %d)", rolloff, (int)samples, (int)span);
+    pel_report r = pel_rrc(rolloff, samples, span, lend(8 * n), 8 * n);
+    double factor = straight_rrc(rolloff, samples, span, rrc_want);
+    near(what, r.value / factor, 1.0, most);
+    report(what, r, (pel_report){.count = n, .value = r.value});
+    report(what, pel_rrc_new(rolloff, samples, span), r);
+    report(what, pel_rrc_len(samples, span), counted(n));
+    around(what);
+
+    for (uint64_t i = 0; i < n; i++) {
+        near(what, tap(i), rrc_want[i], most);
+        /* The sine isn't odd to the bit. */
+        near("a tap and its mirror image", tap(i), tap(n - 1 - i), most);
+        expect_count("the middle is the peak", fabs(tap(i)) <= tap((n - 1) / 2) + most, 1);
+    }
+    near("energy 1", correlation(n, 0), 1.0, 1e-12);
+}
+
+static void rrc_designs(void)
+{
+    REPORT(pel_rrc_len(2, 4), counted(9));
+    expect_count("the example's taps", pel_rrc_new(0.5, 8, 8).count, 65);
+    static const double rolloffs[] = {0.05, 0.1, 0.2, 0.22, 0.25, 0.3, 1.0 / 3.0, 0.35, 0.5, 0.75, 0.999, 1.0};
+    static const uint64_t samples[] = {2, 3, 4, 5, 8, 10, 25}, spans[] = {4, 5, 7, 8, 16, 31, 32};
+    for (size_t i = 0; i < COUNT(rolloffs); i++)
+        for (size_t k = 0; k < COUNT(samples); k++)
+            for (size_t m = 0; m < COUNT(spans); m++)
+                rrc_within(rolloffs[i], samples[k], spans[m], 1e-12);
+    rrc_within(0.05, 1024, 32, 1e-12);
+    rrc_within(1.0, 1024, 32, 1e-12);
+    rrc_within(0.35, 1023, 31, 1e-12);
+
+    /* A roll-off of 1 by hand: h(t) = 4 cos(2 pi t)/(pi (1 - 16 t^2)), so the tap d half symbols from the middle
+     * is (-1)^d/(1 - 4 d^2) of the middle one. */
+    pel_rrc(1.0, 2, 4, lend(8 * 9), 8 * 9);
+    static const double ratios[] = {1.0, 1.0 / 3.0, -1.0 / 15.0, 1.0 / 35.0, -1.0 / 63.0};
+    for (uint64_t d = 0; d < 5; d++) {
+        near("a roll-off of 1", tap(4 + d) / tap(4), ratios[d], 1e-12);
+        near("a roll-off of 1", tap(4 - d) / tap(4), ratios[d], 1e-12);
+    }
+}
+
+/* Next to 0/0 the formula loses digits, and within 1e-9 of it the limit stands: either way the taps are
+ * those of the roll-off beside, but for so many digits. */
+static void rrc_corners(void)
+{
+    static double beside[129];
+    pel_rrc(0.25, 8, 16, lend(8 * 129), 8 * 129);
+    for (uint64_t i = 0; i < 129; i++)
+        beside[i] = tap(i);
+    static const double steps[] = {1e-16, 1e-12, 2e-10, 4.9e-10, 5.1e-10, 1e-9, 1e-8};
+    for (size_t i = 0; i < COUNT(steps); i++)
+        for (int sign = -1; sign <= 1; sign += 2) {
+            rrc_within(0.25 * (1.0 + sign * steps[i]), 8, 16, 1e-6);
+            for (uint64_t k = 0; k < 129; k++)
+                near("next to the corner", tap(k), beside[k], 1e-6);
+        }
+}
+
+/* The pulse sent through itself is a raised cosine, which is 0 at every other symbol. What is cut off past 16
+ * symbols to each side costs less than 1e-3 where the roll-off is a quarter or more. */
+static void no_intersymbol_interference(void)
+{
+    static const double rolloffs[] = {0.25, 0.35, 0.5, 1.0};
+    for (size_t i = 0; i < COUNT(rolloffs); i++) {
+        pel_report r = pel_rrc(rolloffs[i], 8, 32, lend(8 * 257), 8 * 257);
+        for (uint64_t symbol = 1; symbol <= 16; symbol++)
+            near("at another symbol", correlation(r.count, 8 * symbol), 0.0, 1e-3);
+    }
+}
+
+static void rrc_refusals(void)
+{
+    REFUSED(pel_rrc(quiet, 0, 0, lend(13), 13), length(8, 13));
+    REFUSED(pel_rrc(0.5, 8, 8, lend(8 * 65 + 7), 8 * 65 + 7), length(520, 527));
+    REFUSED(pel_rrc(0.5, 8, 8, lend(1), 1), length(0, 1));
+
+    REFUSED(pel_rrc(0.04, 8, 8, lend(8 * 65), 8 * 65), range(5, 0.05, 1, 0.04));
+    REFUSED(pel_rrc(quiet, 8, 8, lend(8 * 65), 8 * 65), range(5, 0.05, 1, quiet));
+    REFUSED(pel_rrc(inf, 0, 99, lend(0), 0), range(5, 0.05, 1, inf));
+    REFUSED(pel_rrc(-inf, UINT64_MAX, UINT64_MAX, lend(8), 8), range(5, 0.05, 1, -inf));
+    REFUSED(pel_rrc(-0.5, 8, 8, lend(8), 8), range(5, 0.05, 1, -0.5));
+    RANGE(pel_rrc_new(nextafter(0.05, 0), 8, 8), 5, 0.05, 1, nextafter(0.05, 0));
+    RANGE(pel_rrc_new(nextafter(1, 2), 0, 0), 5, 0.05, 1, nextafter(1, 2));
+    RANGE(pel_rrc_new(0.0, 8, 8), 5, 0.05, 1, 0.0);
+    RANGE(pel_rrc_new(-0.0, 8, 8), 5, 0.05, 1, -0.0);
+
+    /* The samples are tested before the span, the Gaussian's the other way round. */
+    REFUSED(pel_rrc(0.5, 1, 3, lend(8 * 4), 8 * 4), range(6, 2, 1024, 1));
+    REFUSED(pel_rrc(0.5, 0, 8, lend(8), 8), range(6, 2, 1024, 0));
+    REFUSED(pel_rrc(0.5, 1025, 33, lend(0), 0), range(6, 2, 1024, 1025));
+    REFUSED(pel_rrc(0.5, 8, 3, lend(8 * 25), 8 * 25), range(6, 4, 32, 3));
+    REFUSED(pel_rrc(0.5, 8, 33, lend(8 * 265), 8 * 265), range(6, 4, 32, 33));
+    REFUSED(pel_rrc(0.5, 8, 0, lend(8), 8), range(6, 4, 32, 0));
+    RANGE(pel_rrc_new(0.5, UINT64_MAX, UINT64_MAX), 6, 2, 1024, 18446744073709551616.0);
+    RANGE(pel_rrc_new(0.5, 2, UINT64_MAX), 6, 4, 32, 18446744073709551616.0);
+    RANGE(pel_rrc_len(1, 3), 6, 2, 1024, 1);
+    RANGE(pel_rrc_len(2, 3), 6, 4, 32, 3);
+    /* 2^64/span samples would be a small number of taps, were the product formed. */
+    REFUSED(pel_rrc(0.5, 1ull << 62, 4, lend(8), 8), range(6, 2, 1024, 4611686018427387904.0));
+    REFUSED(pel_rrc(0.5, 4, 1ull << 62, lend(8), 8), range(6, 4, 32, 4611686018427387904.0));
+    /* A count is offered as the nearest double, ties to even. */
+    RANGE(pel_rrc_len((1ull << 53) + 1, 8), 6, 2, 1024, 9007199254740992.0);
+    RANGE(pel_rrc_len(8, (1ull << 53) + 3), 6, 4, 32, 9007199254740996.0);
+
+    REFUSED(pel_rrc(0.5, 8, 8, lend(8 * 64), 8 * 64), length(65, 64));
+    REFUSED(pel_rrc(0.5, 8, 8, lend(8 * 66), 8 * 66), length(65, 66));
+    REFUSED(pel_rrc(1.0, 1024, 32, lend(0), 0), length(LONGEST, 0));
+}
+
+/* Every combination of good and bad arguments: 8 in bytes, 5, 6 the samples, 6 the span, 8 in taps. */
+static void rrc_orders(void)
+{
+    static const double rolloffs[] = {0.05, 0.5, 1.0, 0.0, 0.0499999999999999, 1.0000000000000002, -0.5, INFINITY, NAN};
+    static const uint64_t samples[] = {2, 5, 1024, 0, 1, 1025, 1ull << 61, UINT64_MAX};
+    static const uint64_t spans[] = {4, 8, 32, 0, 3, 33, 1ull << 61, UINT64_MAX};
+    static const size_t lengths[] = {0, 3, 8, 12, 8 * 9, 8 * 17, 8 * 21, 8 * 41, 8 * 41 + 7, 8 * 65};
+    for (size_t a = 0; a < COUNT(rolloffs); a++)
+        for (size_t b = 0; b < COUNT(samples); b++)
+            for (size_t c = 0; c < COUNT(spans); c++)
+                for (size_t d = 0; d < COUNT(lengths); d++) {
+                    double rolloff = rolloffs[a];
+                    uint64_t s = samples[b], p = spans[c];
+                    size_t bytes = lengths[d];
+                    pel_report r = pel_rrc(rolloff, s, p, lend(bytes), bytes);
+                    if (bytes % 8 != 0)
+                        report("8 in bytes first", r, length(bytes - bytes % 8, bytes));
+                    else if (!(rolloff >= 0.05 && rolloff <= 1.0))
+                        report("then 5", r, range(5, 0.05, 1, rolloff));
+                    else if (s < 2 || s > 1024)
+                        report("then 6 of the samples", r, range(6, 2, 1024, (double)s));
+                    else if (p < 4 || p > 32)
+                        report("then 6 of the span", r, range(6, 4, 32, (double)p));
+                    else if (s * p + 1 != bytes / 8)
+                        report("then 8 in taps", r, length(s * p + 1, bytes / 8));
+                    else
+                        report("accepted", r, pel_rrc_new(rolloff, s, p));
+                    if (r.number == 5 || r.number == 6)
+                        report("without a buffer", pel_rrc_new(rolloff, s, p), r);
+                    if (r.number == 6)
+                        report("without a roll-off", pel_rrc_len(s, p), r);
+                    r.number == 0 ? around("accepted") : as_it_came("refused");
+                }
+}
+
+/* Random bits as roll-off, small counts and large ones: nothing may crash, hang or touch a byte that it
+ * should not. */
+static void rrc_hostile(void)
+{
+    uint64_t state = 37;
+    for (int i = 0; i < 20000; i++) {
+        state = state * 6364136223846793005u + 1442695040888963407u;
+        double rolloff = of_bits(state ^ state >> 31), taken = 0.05 + 0.95 * (double)(state >> 32) / 4294967296.0;
+        uint64_t samples = state >> 40 & 7, span = state >> 50 & 15;
+        size_t bytes = (state >> 20 & 3) == 0 ? state >> 44 & 1023 : 8 * (samples * span + 1);
+        pel_report r = pel_rrc(rolloff, samples, span, lend(bytes), bytes);
+        r.number == 0 ? around("hostile") : as_it_came("hostile");
+        r = pel_rrc(taken, samples, span, lend(bytes), bytes);
+        r.number == 0 ? around("hostile") : as_it_came("hostile");
+        near("hostile, and energy 1", r.number == 0 ? correlation(r.count, 0) : 1.0, 1.0, 1e-12);
+        expect_count("too many samples", pel_rrc_new(taken, state | 1 << 20, span).number, 6);
+        expect_count("too long a span", pel_rrc_len(2 + samples, state | 1 << 20).number, 6);
+    }
+}
+
 static void tests(void)
 {
     designs();
     refusals();
     orders();
+    rrc_designs();
+    rrc_corners();
+    no_intersymbol_interference();
+    rrc_refusals();
+    rrc_orders();
+    rrc_hostile();
 }
 
 int main(void)
 {
-    return both_ways(tests, "Gaussian pulses");
+    return both_ways(tests, "pulses");
 }

@@ -73,4 +73,34 @@ static inline double straight_gaussian(double bt, size_t samples, size_t span, d
     return straight_divide(n, taps);
 }
 
+/* The root-raised-cosine pulse at t symbols from its middle, over long doubles. Where 4 b t is 1 or nearly so
+ * the formula is 0/0 and its limit stands. */
+static inline long double straight_root_raised_cosine(long double b, long double t)
+{
+    const long double lpi = 3.14159265358979323846264338327950288L;
+    long double x = 4.0L * b * t, rest = 1.0L - x * x, a = lpi / (4.0L * b);
+    if (t == 0.0L)
+        return 1.0L - b + 4.0L * b / lpi;
+    if (fabsl(rest) < 1e-9L)
+        return b / sqrtl(2.0L) * ((1.0L + 2.0L / lpi) * sinl(a) + (1.0L - 2.0L / lpi) * cosl(a));
+    return (sinl(lpi * t * (1.0L - b)) + x * cosl(lpi * t * (1.0L + b))) / (lpi * t * rest);
+}
+
+/* Its taps, times the factor that makes the sum of their squares 1; tells the factor. */
+static inline double straight_rrc(double rolloff, size_t samples, size_t span, double *taps)
+{
+    size_t n = samples * span + 1;
+    long double energy = 0.0L;
+    for (size_t i = 0; i < n; i++) {
+        long double t = ((long double)i - (long double)(n - 1) / 2.0L) / (long double)samples;
+        long double h = straight_root_raised_cosine(rolloff, t);
+        taps[i] = (double)h;
+        energy += h * h;
+    }
+    double factor = (double)(1.0L / sqrtl(energy));
+    for (size_t i = 0; i < n; i++)
+        taps[i] *= factor;
+    return factor;
+}
+
 #endif

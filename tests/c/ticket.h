@@ -16,7 +16,7 @@
 
 #define GUARD 64
 #define MARK 0xA5
-#define ROOM ((size_t)1 << 18)
+#define ROOM ((size_t)1 << 19)
 
 /* The library isn't compiled with the sanitizers, so they alone would miss its strays. A buffer therefore
  * either ends exactly where a page begins that nobody may touch, or lies at an odd address with marks on
