@@ -1,12 +1,12 @@
 //! Cases that a run must meet and that a refusal's number doesn't tell apart.
 
-use crate::report::Report;
+use crate::designers::Answer;
 use crate::tickets::{Channels, Source, Spec, Ticket};
 
-/// A case that a run must meet, told by the ticket and the Rust side's report.
+/// A case that a run must meet, told by the ticket and the Rust side's answer.
 pub struct Case {
     pub what: &'static str,
-    pub met: fn(&Ticket, &Report) -> bool,
+    pub met: fn(&Ticket, &Answer) -> bool,
 }
 
 /// What a refusal carries, by its code.
@@ -19,14 +19,27 @@ pub const ELEMENT: u32 = 4;
 /// A case: what it is, and how a ticket and its report show it.
 macro_rules! case {
     ($what:literal, $met:expr) => {
-        Case {
+        $crate::cases::Case {
+            what: $what,
+            met: |ticket, answer| {
+                let met: fn(&$crate::tickets::Ticket, &$crate::report::Report) -> bool = $met;
+                met(ticket, &answer.report)
+            },
+        }
+    };
+}
+
+/// A case that what was written shows.
+macro_rules! written {
+    ($what:literal, $met:expr) => {
+        $crate::cases::Case {
             what: $what,
             met: $met,
         }
     };
 }
 
-pub(crate) use case;
+pub(crate) use {case, written};
 
 /// Whether the ticket is a spec's for which that holds.
 fn of_spec(ticket: &Ticket, holds: impl FnOnce(Spec) -> bool) -> bool {

@@ -1,4 +1,5 @@
-//! Both sides' answers to a conversion to Q15: one number, one tap, or a buffer of them.
+//! The Rust's answers to a conversion to Q15, one number, one tap, or a buffer of them; and the
+//! port's to any conversion of a buffer.
 
 use sdrk_blocks::access::q15_tap;
 use sdrk_blocks::design::to_q15;
@@ -7,9 +8,8 @@ use sdrk_core::{Q15, RealSample};
 
 use crate::designers::{Answer, refusal};
 use crate::lent::Lent;
-use crate::port;
-use crate::random::Random;
 use crate::report::Report;
+use crate::rust_lent::{elements, left};
 use crate::tickets::Source;
 
 /// The Rust's number, by both of its functions.
@@ -38,11 +38,7 @@ pub fn converted(source: &Source, bytes: u64) -> Answer {
         return Report::length(bytes - 1, bytes).into();
     }
     let count = bytes / 2;
-    let came = || {
-        let mut random = Random::new(count);
-        (0..count).map(move |_| Q15(random.bits() as i16))
-    };
-    let mut numbers: Vec<Q15> = came().collect();
+    let mut numbers: Vec<Q15> = elements(count);
     let (report, written) = match to_q15(&source.elements, &mut numbers) {
         Ok(()) => (Report::accepted(count, 0.0), numbers.len()),
         Err(error) => {
@@ -62,11 +58,7 @@ pub fn converted(source: &Source, bytes: u64) -> Answer {
         "the Rust refuses an element that it takes"
     );
     assert!(
-        numbers
-            .iter()
-            .copied()
-            .skip(written)
-            .eq(came().skip(written)),
+        left(&numbers, written),
         "the Rust wrote after the element that it refused"
     );
     numbers.truncate(written);
@@ -78,20 +70,25 @@ pub fn converted(source: &Source, bytes: u64) -> Answer {
     }
     Answer {
         report,
-        q15: numbers.into_iter().map(|number| number.0).collect(),
+        fixed: numbers.into_iter().map(|number| number.0).collect(),
         ..Answer::default()
     }
 }
 
-/// The port's conversion; its source is lent too, at any alignment and between guards.
-pub fn port(source: &Source, buffer: &mut [u8]) -> Report {
-    let seed = source.length() + 3 * buffer.len() as u64;
+/// The port's conversion by one of its functions; its source is lent too, at any alignment and
+/// between guards.
+pub fn port(source: &Source, buffer: &mut [u8], convert: fn(&[u8], &mut [u8]) -> Report) -> Report {
+    let seed = source.elements.len() as u64 + source.length() + 3 * buffer.len() as u64;
     let mut lent = Lent::new(source.length(), seed);
-    let bytes = || source.elements.iter().map(|x| x.to_le_bytes());
-    for (place, element) in lent.part().chunks_exact_mut(8).zip(bytes()) {
+    let bytes = source.elements.iter().map(|x| x.to_le_bytes());
+    for (place, element) in lent.part().chunks_exact_mut(8).zip(bytes) {
         place.copy_from_slice(&element);
     }
-    let report = port::to_q15(lent.part(), buffer);
-    assert!(lent.begins(bytes()), "the port wrote its source");
+    let report = convert(lent.part(), buffer);
+    let same = |bytes, x: &f64| bytes == x.to_le_bytes();
+    assert!(
+        lent.begins(source.elements.iter(), same),
+        "the port wrote its source"
+    );
     report
 }

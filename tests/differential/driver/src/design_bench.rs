@@ -1,31 +1,31 @@
-//! Times the designers and the conversion on both sides, on the same tickets.
+//! Times the designers on both sides, on the same tickets.
 
+use std::f64::consts::FRAC_1_SQRT_2;
 use std::hint::black_box;
 use std::time::Instant;
 
 use sdrk_blocks::design::{
-    DesignSpec, DesignWindow, channelizer_prototype, firwin_lowpass, gaussian, halfband_taps,
-    to_q15,
+    BiquadResponse, DesignSpec, DesignWindow, biquad_coefs, butterworth_sos, channelizer_prototype,
+    firwin_lowpass, gaussian, halfband_taps, preemphasis_coefs, rrc,
 };
-use sdrk_core::Q15;
 
 use crate::bench::rounds;
 use crate::port;
-use crate::tickets::{Band, Channels, Pulse, Spec};
+use crate::tickets::{Band, Cascade, Channels, Cosine, Pulse, Section, Spec};
 
-/// How many taps a pass makes, so that short designs are repeated.
-const PASS_TAPS: usize = 2048;
+/// How many elements a pass makes at least, so that short designs are repeated.
+const PASS_ELEMENTS: usize = 8192;
 
 /// The beta of 60 dB.
-const BETA: f64 = 5.65326;
+pub const BETA: f64 = 5.65326;
 
 /// The cutoffs of the low-passes.
 const CUTOFFS: [f64; 4] = [0.05, 0.1, 0.21, 0.3];
 
 /// The microseconds of one call, over one pass through the numbers, again and again; a call tells
 /// whether it was accepted.
-fn pass(numbers: &[f64], taps: usize, mut call: impl FnMut(f64) -> bool) -> f64 {
-    let times = PASS_TAPS.div_ceil(taps * numbers.len());
+pub fn pass(numbers: &[f64], elements: usize, mut call: impl FnMut(f64) -> bool) -> f64 {
+    let times = PASS_ELEMENTS.div_ceil(elements * numbers.len());
     let start = Instant::now();
     for _ in 0..times {
         for &number in numbers {
@@ -35,29 +35,34 @@ fn pass(numbers: &[f64], taps: usize, mut call: impl FnMut(f64) -> bool) -> f64 
     start.elapsed().as_nanos() as f64 / 1000.0 / (times * numbers.len()) as f64
 }
 
-fn print(name: &str, taps: usize, what: &str, (port, rust): (f64, f64)) {
+/// Prints the line of a kind: how many elements of what sort, and the times of both sides.
+pub fn print(name: &str, count: usize, what: &str, (port, rust): (f64, f64)) {
     println!(
-        "{name:<24} {taps:4} {what}  port {port:8.2} us  rust {rust:8.2} us  ratio {:.2}",
+        "{name:<24} {count:4} {what:<8}  port {port:8.3} us  rust {rust:8.3} us  ratio {:.2}",
         port / rust,
     );
 }
 
-/// Times one kind of design with buffers of that many taps, and prints a line; one of its arguments
-/// runs through the numbers.
+/// Times one kind of design with buffers of that many elements, and prints a line; one of its
+/// arguments runs through the numbers.
 fn time_design(
     name: &str,
-    taps: usize,
+    (count, what): (usize, &str),
     numbers: &[f64],
     port: impl Fn(f64, &mut [u8]) -> bool,
     rust: impl Fn(f64, &mut [f64]) -> bool,
 ) {
-    let mut bytes = vec![0; 8 * taps];
-    let mut floats = vec![0.0; taps];
+    let mut bytes = vec![0; 8 * count];
+    let mut floats = vec![0.0; count];
     let times = rounds(
-        || pass(numbers, taps, |number| port(number, black_box(&mut bytes))),
-        || pass(numbers, taps, |number| rust(number, black_box(&mut floats))),
+        || pass(numbers, count, |number| port(number, black_box(&mut bytes))),
+        || {
+            pass(numbers, count, |number| {
+                rust(number, black_box(&mut floats))
+            })
+        },
     );
-    print(name, taps, "taps", times);
+    print(name, count, what, times);
 }
 
 fn time_lowpasses() {
@@ -76,7 +81,7 @@ fn time_lowpasses() {
         };
         time_design(
             name,
-            taps,
+            (taps, "taps"),
             &CUTOFFS,
             |cutoff, out| port::lowpass(&band(cutoff), out).is_accepted(),
             |cutoff, out| firwin_lowpass(cutoff, 1.0, window, out).is_ok(),
@@ -91,7 +96,7 @@ fn time_lowpasses() {
     };
     time_design(
         "spec_design, 60 dB",
-        293,
+        (293, "taps"),
         &CUTOFFS,
         |cutoff, out| port::spec_design(&spec(cutoff), out).is_accepted(),
         |cutoff, out| {
@@ -106,28 +111,87 @@ fn time_lowpasses() {
     );
 }
 
-/// A conversion of a Hamming low-pass, again and again.
-fn time_conversion(taps: usize) {
-    let mut source = vec![0.0; taps];
-    let design = firwin_lowpass(0.21, 1.0, DesignWindow::Hamming, &mut source);
-    assert!(design.is_ok(), "the design is refused");
-    let bytes: Vec<u8> = source.iter().flat_map(|tap| tap.to_le_bytes()).collect();
-    let mut out = vec![0; 2 * taps];
-    let mut numbers = vec![Q15(0); taps];
-    // The number that runs through a pass has no part here.
-    let times = rounds(
-        || {
-            pass(&[0.0], taps, |_| {
-                port::to_q15(black_box(&bytes), black_box(&mut out)).is_accepted()
-            })
-        },
-        || {
-            pass(&[0.0], taps, |_| {
-                to_q15(black_box(&source), black_box(&mut numbers)).is_ok()
-            })
+fn time_pulses() {
+    let pulse = |bt| Pulse {
+        bt,
+        samples: 8,
+        span: 8,
+    };
+    time_design(
+        "gaussian",
+        (65, "taps"),
+        &[0.5],
+        |bt, out| port::gaussian(&pulse(bt), out).is_accepted(),
+        |bt, out| gaussian(bt, 8, 8, out).is_ok(),
+    );
+    let cosine = |rolloff| Cosine {
+        rolloff,
+        samples: 8,
+        span: 16,
+    };
+    time_design(
+        "rrc",
+        (129, "taps"),
+        &[0.35],
+        |rolloff, out| port::rrc(&cosine(rolloff), out).is_accepted(),
+        |rolloff, out| rrc(rolloff, 8, 16, out).is_ok(),
+    );
+}
+
+/// Neither side may know a number beforehand. Where the Rust gives its numbers back they are copied
+/// into the buffer.
+fn time_sections() {
+    let section = |centre| {
+        black_box(Section {
+            response: 0,
+            centre,
+            q: FRAC_1_SQRT_2,
+            rate: 1.0,
+        })
+    };
+    time_design(
+        "biquad_coefs",
+        (5, "numbers"),
+        &CUTOFFS,
+        |centre, out| port::biquad_coefs(&section(centre), out).is_accepted(),
+        |centre, out| {
+            let Section { q, rate, .. } = section(centre);
+            biquad_coefs(black_box(BiquadResponse::Lowpass), centre, q, rate)
+                .map(|coefs| out.copy_from_slice(&coefs))
+                .is_ok()
         },
     );
-    print("to_q15", taps, "elements", times);
+    let cascade = |cutoff| {
+        black_box(Cascade {
+            response: 0,
+            order: 8,
+            cutoff,
+            rate: 1.0,
+        })
+    };
+    time_design(
+        "butterworth_sos, order 8",
+        (20, "numbers"),
+        &CUTOFFS,
+        |cutoff, out| port::butterworth_sos(&cascade(cutoff), out).is_accepted(),
+        |cutoff, out| {
+            let Cascade { order, rate, .. } = cascade(cutoff);
+            let response = black_box(BiquadResponse::Lowpass);
+            let (sections, _) = out.as_chunks_mut();
+            butterworth_sos(response, order as usize, cutoff, rate, sections).is_ok()
+        },
+    );
+    time_design(
+        "preemphasis_coefs",
+        (3, "numbers"),
+        &[50e-6, 75e-6],
+        |tau, out| port::preemphasis_coefs(tau, black_box(48_000.0), out).is_accepted(),
+        |tau, out| {
+            preemphasis_coefs(tau, black_box(48_000.0))
+                .map(|coefs| out.copy_from_slice(&coefs))
+                .is_ok()
+        },
+    );
 }
 
 /// Prints for each kind of design the median over the rounds on both sides, and their ratio.
@@ -136,23 +200,12 @@ pub fn run() {
     time_lowpasses();
     time_design(
         "halfband",
-        255,
+        (255, "taps"),
         &[BETA],
         |beta, out| port::halfband(beta, out).is_accepted(),
         |beta, out| halfband_taps(beta, out).is_ok(),
     );
-    let pulse = |bt| Pulse {
-        bt,
-        samples: 8,
-        span: 8,
-    };
-    time_design(
-        "gaussian",
-        65,
-        &[0.5],
-        |bt, out| port::gaussian(&pulse(bt), out).is_accepted(),
-        |bt, out| gaussian(bt, 8, 8, out).is_ok(),
-    );
+    time_pulses();
     let channels = |attenuation| Channels {
         channels: 16,
         passband: 0.5,
@@ -161,12 +214,12 @@ pub fn run() {
     };
     time_design(
         "channelizer_prototype",
-        128,
+        (128, "taps"),
         &[60.0],
         |attenuation, out| {
             port::channelizer_prototype(&channels(attenuation), 8, out).is_accepted()
         },
         |attenuation, out| channelizer_prototype(16, 8, 0.5, 1.0, attenuation, out).is_ok(),
     );
-    time_conversion(1023);
+    time_sections();
 }

@@ -1,27 +1,29 @@
 //! Both sides' answers to a ticket: the Rust files' as reports and taps, and the port's.
 
-use sdrk_blocks::access::{Gaussian, Halfband, Lowpass};
+use sdrk_blocks::access::{Gaussian, Halfband, Lowpass, Rrc};
 use sdrk_blocks::design::{
     DesignSpec, DesignWindow, channelizer_prototype, channelizer_taps, channelizer_taps_per_branch,
-    firwin_lowpass, gaussian, halfband_len, halfband_taps, kaiser_beta, kaiserord,
+    firwin_lowpass, gaussian, halfband_len, halfband_taps, kaiser_beta, kaiserord, rrc, rrc_len,
 };
 use sdrk_blocks::{Error, Result};
 use sdrk_core::window::bessel_i0;
 
-use crate::conversions;
 use crate::functions::same;
 use crate::port;
-use crate::random::Random;
 use crate::report::Report;
-use crate::tickets::{Band, Channels, Spec, Ticket};
+use crate::rust_lent::{elements, left};
+use crate::tickets::{Band, Channels, Cosine, Spec, Ticket};
+use crate::{conversions, formats, gains, sections, windows};
 
-/// A report and what is written: the taps of an accepted design, or the Q15 numbers of a
-/// conversion, also of one that stopped.
+/// A report and what is written, in one format: the taps or coefficients of an accepted design,
+/// the samples of a window, or the numbers of a conversion, also of one that stopped.
 #[derive(Default)]
 pub struct Answer {
     pub report: Report,
     pub taps: Vec<f64>,
-    pub q15: Vec<i16>,
+    /// Q15 or Q14 numbers.
+    pub fixed: Vec<i16>,
+    pub singles: Vec<f32>,
 }
 
 impl From<Report> for Answer {
@@ -37,11 +39,13 @@ impl From<Report> for Answer {
 fn number(name: &str) -> u32 {
     match name {
         "fs_hz" => 1,
-        "cutoff_hz" | "passband" | "stopband" => 2,
+        "cutoff_hz" | "f0_hz" | "passband" | "stopband" => 2,
         "transition_hz" => 3,
         "attenuation_db" | "beta" => 4,
-        "bt" => 5,
-        "num_taps" | "taps" | "span" | "sps" | "channels" | "taps_per_branch" => 6,
+        "bt" | "rolloff" | "q" | "tau_s" => 5,
+        "num_taps" | "taps" | "order" | "span" | "sps" | "samples_per_symbol" | "channels"
+        | "taps_per_branch" => 6,
+        "response" => 7,
         "window" => 10,
         _ => panic!("an error of the Rust that has no number: {name}"),
     }
@@ -59,7 +63,7 @@ pub fn refusal(error: Error) -> Report {
             got,
         } => Report::cap(min as u64, max, got as u64),
         Error::OutOfRange {
-            name: "tap",
+            name: "tap" | "coefficient",
             min,
             max,
             got,
@@ -149,11 +153,7 @@ fn lent(
         return Report::length(bytes - bytes % 8, bytes).into();
     }
     let count = bytes / 8;
-    let words = || {
-        let mut random = Random::new(count);
-        (0..count).map(move |_| random.bits())
-    };
-    let mut taps: Vec<f64> = words().map(f64::from_bits).collect();
+    let mut taps = elements(count);
     match fill(&mut taps) {
         Ok(()) => {
             let report = record();
@@ -168,10 +168,7 @@ fn lent(
             }
         }
         Err(Refused::Left(report)) => {
-            assert!(
-                taps.iter().map(|tap| tap.to_bits()).eq(words()),
-                "the Rust wrote before a refusal"
-            );
+            assert!(left(&taps, 0), "the Rust wrote before a refusal");
             report.into()
         }
         Err(Refused::Overwritten(report)) => report.into(),
@@ -233,6 +230,40 @@ fn recorded_gaussian(answer: Result<Gaussian>) -> Report {
     answer.map_or_else(refusal, |gaussian| {
         Report::accepted(gaussian.count() as u64, gaussian.divisor())
     })
+}
+
+/// The Rust's root-raised-cosine pulse as a record.
+fn cosine_record(cosine: &Cosine) -> Result<Rrc> {
+    Rrc::new(
+        cosine.rolloff,
+        cosine.samples as usize,
+        cosine.span as usize,
+    )
+}
+
+/// The report of a root-raised-cosine pulse's record, or of the error in its place.
+fn recorded_rrc(answer: Result<Rrc>) -> Report {
+    answer.map_or_else(refusal, |rrc| {
+        Report::accepted(rrc.count() as u64, rrc.factor())
+    })
+}
+
+/// The Rust's root-raised-cosine pulse, which must be that of its record.
+fn lent_rrc(cosine: &Cosine, bytes: u64) -> Answer {
+    let (samples, span) = (cosine.samples as usize, cosine.span as usize);
+    let record = cosine_record(cosine);
+    let answer = lent(
+        bytes,
+        |taps| Ok(rrc(cosine.rolloff, samples, span, taps)?),
+        || recorded_rrc(record),
+    );
+    for (i, tap) in answer.taps.iter().enumerate() {
+        assert!(
+            record.is_ok_and(|record| record.tap(i).to_bits() == tap.to_bits()),
+            "the Rust's pulse and its record differ at tap {i} of {cosine:?}"
+        );
+    }
+    answer
 }
 
 /// The report of a channelizer's estimate. The Rust says stopband for a band that is too narrow
@@ -384,6 +415,20 @@ pub fn rust(ticket: &Ticket) -> Answer {
         Ticket::Q15FromF64 { x } => conversions::number(x).into(),
         Ticket::Q15Tap { tap } => conversions::tap(tap).into(),
         Ticket::ToQ15 { ref source, bytes } => conversions::converted(source, bytes),
+        Ticket::RrcLen { samples, span } => {
+            counted(rrc_len(samples as usize, span as usize)).into()
+        }
+        Ticket::RrcNew { cosine } => recorded_rrc(cosine_record(&cosine)).into(),
+        Ticket::Rrc { cosine, bytes } => lent_rrc(&cosine, bytes),
+        Ticket::BiquadCoefs { section, bytes } => sections::biquad(&section, bytes),
+        Ticket::ButterworthSos { cascade, bytes } => sections::butterworth(&cascade, bytes),
+        Ticket::PreemphasisCoefs { tau, rate, bytes } => sections::preemphasis(tau, rate, bytes),
+        Ticket::Q14FromF64 { x } => formats::number(x).into(),
+        Ticket::ToQ14 { ref source, bytes } => formats::q14(source, bytes),
+        Ticket::ToF32 { ref source, bytes } => formats::singles(source, bytes, 1),
+        Ticket::ToF32Sos { ref source, bytes } => formats::singles(source, bytes, 5),
+        Ticket::Window { window, bytes } => windows::rust(&window, bytes),
+        Ticket::WindowGain { ref samples } => gains::rust(samples).into(),
     }
 }
 
@@ -424,6 +469,18 @@ pub fn port(ticket: &Ticket, buffer: &mut [u8]) -> Report {
         } => port::channelizer_prototype(&channels, branch, buffer),
         Ticket::Q15FromF64 { x } => Report::accepted(0, f64::from(port::q15_from_f64(x))),
         Ticket::Q15Tap { tap } => port::q15_tap(tap),
-        Ticket::ToQ15 { ref source, .. } => conversions::port(source, buffer),
+        Ticket::ToQ15 { ref source, .. } => conversions::port(source, buffer, port::to_q15),
+        Ticket::RrcLen { samples, span } => port::rrc_len(samples, span),
+        Ticket::RrcNew { cosine } => port::rrc_new(&cosine),
+        Ticket::Rrc { cosine, .. } => port::rrc(&cosine, buffer),
+        Ticket::BiquadCoefs { section, .. } => port::biquad_coefs(&section, buffer),
+        Ticket::ButterworthSos { cascade, .. } => port::butterworth_sos(&cascade, buffer),
+        Ticket::PreemphasisCoefs { tau, rate, .. } => port::preemphasis_coefs(tau, rate, buffer),
+        Ticket::Q14FromF64 { x } => port::q14_from_f64(x),
+        Ticket::ToQ14 { ref source, .. } => conversions::port(source, buffer, port::to_q14),
+        Ticket::ToF32 { ref source, .. } => conversions::port(source, buffer, port::to_f32),
+        Ticket::ToF32Sos { ref source, .. } => conversions::port(source, buffer, port::to_f32_sos),
+        Ticket::Window { window, .. } => port::window(&window, buffer),
+        Ticket::WindowGain { ref samples } => gains::port(samples),
     }
 }

@@ -8,6 +8,7 @@ use crate::cases::{
 };
 use crate::cases::{CAP, Case, ELEMENT, LENGTH, PLAIN, RANGE, case, of_source};
 use crate::tickets::{Kind, LARGEST_COUNT, Ticket};
+use crate::{format_kinds, rrc_kinds, section_kinds, window_kinds};
 
 /// What a run has to know of a kind.
 pub struct About {
@@ -24,18 +25,37 @@ pub struct About {
     pub cases: &'static [Case],
 }
 
+/// All kinds by the order of their numbers, in rows.
+const ROWS: [&[About]; 5] = [
+    CHAIN,
+    rrc_kinds::KINDS,
+    section_kinds::KINDS,
+    format_kinds::KINDS,
+    window_kinds::KINDS,
+];
+
+/// All kinds by the order of their numbers.
+pub fn kinds() -> impl Iterator<Item = &'static About> {
+    ROWS.into_iter().flatten()
+}
+
 /// The sum of all kinds' shares.
 pub const SHARES: u64 = {
     let mut sum = 0;
-    let mut i = 0;
-    while i < KINDS.len() {
-        sum += KINDS[i].share;
-        i += 1;
+    let mut row = 0;
+    while row < ROWS.len() {
+        let mut i = 0;
+        while i < ROWS[row].len() {
+            sum += ROWS[row][i].share;
+            i += 1;
+        }
+        row += 1;
     }
     sum
 };
 
-pub const KINDS: [About; 21] = [
+/// The kinds from the series to the conversion to Q15.
+const CHAIN: &[About] = &[
     About {
         kind: Kind::BesselI0,
         name: "bessel_i0",

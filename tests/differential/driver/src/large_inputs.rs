@@ -4,13 +4,20 @@ use std::f64::consts::PI;
 
 use crate::draw::{CAP, Draw};
 use crate::lowpass_inputs::{hann, windowed};
-use crate::q15_inputs;
 use crate::random::Random;
 use crate::spec_inputs::{LONGEST, needed};
-use crate::tickets::{Band, Channels, Kind, LARGEST_COUNT, Pulse, Spec, Ticket};
+use crate::tickets::{Band, Channels, Cosine, Kind, LARGEST_COUNT, Pulse, Spec, Ticket};
+use crate::{f32_inputs, gain_inputs, q14_inputs, q15_inputs, window_inputs};
 
-/// Tickets of up to 2^24 taps, which take seconds, or of buffers of that size, with their kinds.
+/// The large tickets, with their kinds.
 pub fn large() -> Vec<(Kind, Ticket)> {
+    let mut all = designs();
+    all.extend(beside());
+    all
+}
+
+/// Tickets of up to 2^24 taps, which take seconds, or of buffers of that size.
+fn designs() -> Vec<(Kind, Ticket)> {
     let spec = |taps: u64| {
         let spec = Spec {
             cutoff: 0.2,
@@ -141,4 +148,62 @@ pub fn large() -> Vec<(Kind, Ticket)> {
         (Kind::ToQ15, converted),
         (Kind::ToQ15, stopped),
     ]
+}
+
+/// The longest root-raised-cosine pulses, and conversions, windows and a gain of 2^20 elements, or
+/// of as many whole sections.
+fn beside() -> Vec<(Kind, Ticket)> {
+    const COUNT: u64 = 1 << 20;
+    let cosine = Cosine {
+        rolloff: 0.35,
+        samples: 1024,
+        span: 32,
+    };
+    // A tap stands on a singular point.
+    let singular = Cosine {
+        rolloff: 0.25,
+        ..cosine
+    };
+    let mut random = Random::new(COUNT);
+    let mut draw = Draw::new(&mut random);
+    let [converted, stopped] = q14_inputs::large(COUNT - COUNT % 5, &mut draw);
+    let sections = f32_inputs::large(Kind::ToF32Sos, COUNT - COUNT % 5, &mut draw);
+    let mut all = vec![
+        (Kind::RrcNew, Ticket::RrcNew { cosine }),
+        (
+            Kind::Rrc,
+            Ticket::Rrc {
+                cosine,
+                bytes: 8 * 32769,
+            },
+        ),
+        (
+            Kind::Rrc,
+            Ticket::Rrc {
+                cosine: singular,
+                bytes: 8 * 32769,
+            },
+        ),
+        (Kind::ToQ14, converted),
+        (Kind::ToQ14, stopped),
+        (
+            Kind::ToF32,
+            f32_inputs::large(Kind::ToF32, COUNT, &mut draw),
+        ),
+        (Kind::ToF32Sos, sections),
+        (Kind::WindowGain, gain_inputs::large(COUNT, &mut draw)),
+    ];
+    for (symmetry, kind) in [
+        (0, Kind::HannF32),
+        (1, Kind::HannQ15),
+        (1, Kind::BlackmanHarrisF32),
+        (0, Kind::BlackmanHarrisQ15),
+        (0, Kind::KaiserF32),
+        (1, Kind::KaiserQ15),
+    ] {
+        let window = window_inputs::window(kind, 8.6, symmetry);
+        let bytes = window.format.width() * COUNT;
+        all.push((kind, Ticket::Window { window, bytes }));
+    }
+    all
 }

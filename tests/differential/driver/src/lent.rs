@@ -42,18 +42,21 @@ impl Lent {
         })
     }
 
-    /// Whether the buffer begins with the elements, each as its bytes, and its other bytes and the
-    /// guards are as they came.
-    pub fn begins<const WIDTH: usize>(
+    /// Whether the buffer begins with the elements, each the same as its bytes, and its other bytes
+    /// and the guards are as they came.
+    pub fn begins<const WIDTH: usize, E>(
         &self,
-        elements: impl ExactSizeIterator<Item = [u8; WIDTH]>,
+        elements: impl ExactSizeIterator<Item = E>,
+        same: impl Fn([u8; WIDTH], E) -> bool,
     ) -> bool {
         let end = self.start + WIDTH * elements.len();
         end <= self.end
             && self.as_they_came(self.start, end)
             && self.bytes[self.start..end]
-                .chunks_exact(WIDTH)
+                .as_chunks()
+                .0
+                .iter()
                 .zip(elements)
-                .all(|(bytes, element)| bytes == element)
+                .all(|(bytes, element)| same(*bytes, element))
     }
 }

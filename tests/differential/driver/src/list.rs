@@ -4,20 +4,20 @@ use std::collections::HashSet;
 
 use crate::designers::{self, Answer};
 use crate::functions::FUNCTIONS;
+use crate::gains;
 use crate::inputs;
-use crate::kinds::KINDS;
+use crate::kinds::{About, kinds};
 use crate::random::Random;
-use crate::report::bits;
+use crate::report::{bits, single_bits};
 use crate::ticket_inputs;
 use crate::tickets::{Kind, Ticket};
 
 const SEED: u64 = 0x0123_4567_89AB_CDEF;
 
-/// The most taps, or elements of a conversion, that a line can have.
-const LINE_TAPS: usize = 32;
-
-/// The longest buffer in bytes that a line can ask for.
-const LINE_BYTES: u64 = 4096;
+/// The most elements that a line can have, in what is written or in a source, and the longest
+/// buffer in bytes that it can ask for: up to the kind 31, and from 32 on.
+const LINE: (usize, u64) = (32, 4096);
+const SHORT_LINE: (usize, u64) = (20, 200);
 
 /// Prints about `count` lines for each function: the telling inputs, then random ones.
 pub fn run(count: usize) {
@@ -46,29 +46,48 @@ pub fn run(count: usize) {
     }
 }
 
-/// A Q15 number by its 16 bits, as it stands in a buffer.
-fn q15_word(number: i16) -> u64 {
+/// A Q15 or Q14 number by its 16 bits, as it stands in a buffer.
+fn fixed_word(number: i16) -> u64 {
     u64::from(number as u16)
 }
 
+/// Whether the ticket's line is short enough.
+fn fits(about: &About, ticket: &Ticket, answer: &Answer) -> bool {
+    let (elements, bytes) = if about.number > 31 { SHORT_LINE } else { LINE };
+    let source = ticket.source().map_or(0, |source| source.elements.len());
+    let samples = ticket.samples().map_or(0, |samples| samples.elements.len());
+    let written = [
+        &answer.taps.len(),
+        &answer.fixed.len(),
+        &answer.singles.len(),
+    ];
+    written
+        .into_iter()
+        .chain([&source, &samples])
+        .all(|&count| count <= elements)
+        && ticket.bytes() <= bytes
+}
+
 /// The words of a ticket's line, or nothing if it is too long: the arguments, then the answer.
-fn words(kind: Kind, ticket: &Ticket) -> Option<Vec<u64>> {
-    let Answer { report, taps, q15 } = designers::rust(ticket);
+fn words(about: &About, ticket: &Ticket) -> Option<Vec<u64>> {
+    let answer = designers::rust(ticket);
+    let report = answer.report;
     let mut words = ticket.words();
-    match kind {
+    match about.kind {
         Kind::KaiserBeta => words.push(bits(report.value)),
-        Kind::Q15FromF64 => words.push(q15_word(report.value as i16)),
+        Kind::Q15FromF64 => words.push(fixed_word(report.value as i16)),
+        Kind::WindowGain => words.extend(gains::words(&report)),
         _ => words.extend(report.words()),
     }
-    words.extend(taps.iter().map(|&tap| bits(tap)));
-    words.extend(q15.iter().map(|&number| q15_word(number)));
-    let elements = ticket.source().map_or(0, |source| source.elements.len());
-    (taps.len().max(elements) <= LINE_TAPS && ticket.bytes() <= LINE_BYTES).then_some(words)
+    words.extend(answer.taps.iter().map(|&tap| bits(tap)));
+    words.extend(answer.fixed.iter().map(|&number| fixed_word(number)));
+    words.extend(answer.singles.iter().map(|&sample| single_bits(sample)));
+    fits(about, ticket, &answer).then_some(words)
 }
 
 /// Prints about `count` lines for each kind of tickets: telling ones, then random ones.
 pub fn run_tickets(count: usize) {
-    for about in &KINDS {
+    for about in kinds() {
         let mut random = Random::new(SEED ^ u64::from(about.number) << 56);
         let mut seen = HashSet::new();
         let telling = ticket_inputs::telling(about.kind);
@@ -79,7 +98,7 @@ pub fn run_tickets(count: usize) {
             let ticket = tickets
                 .pop()
                 .unwrap_or_else(|| ticket_inputs::draw(about.kind, &mut random));
-            let Some(words) = words(about.kind, &ticket) else {
+            let Some(words) = words(about, &ticket) else {
                 continue;
             };
             let line: String = words.iter().map(|word| format!(" {word:016X}")).collect();

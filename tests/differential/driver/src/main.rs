@@ -1,17 +1,28 @@
 //! The program that compares the port with the Rust: `compare`, `list`, `bench`.
 
+mod asked;
 mod bench;
+mod butterworth_faults;
 mod cases;
 mod channelizer_faults;
 mod channelizer_inputs;
 mod compare;
+mod conversion_bench;
+mod conversion_inputs;
 mod conversions;
 mod design_bench;
 mod designers;
 mod draw;
 mod exact;
+mod f32_faults;
+mod f32_inputs;
 mod faults;
+mod format_kinds;
+mod formats;
 mod functions;
+mod gain_faults;
+mod gain_inputs;
+mod gains;
 mod gaussian_faults;
 mod gaussian_inputs;
 mod halfband_faults;
@@ -25,10 +36,20 @@ mod list;
 mod lowpass_faults;
 mod lowpass_inputs;
 mod port;
+mod q14_faults;
+mod q14_inputs;
 mod q15_faults;
 mod q15_inputs;
 mod random;
 mod report;
+mod rrc_faults;
+mod rrc_inputs;
+mod rrc_kinds;
+mod rust_lent;
+mod section_faults;
+mod section_inputs;
+mod section_kinds;
+mod sections;
 mod smoke;
 mod spec_faults;
 mod spec_inputs;
@@ -37,6 +58,11 @@ mod ticket_faults;
 mod ticket_inputs;
 mod tickets;
 mod totals;
+mod window_bench;
+mod window_faults;
+mod window_inputs;
+mod window_kinds;
+mod windows;
 
 use std::process::ExitCode;
 
@@ -77,7 +103,7 @@ fn run(words: &[String]) -> Option<bool> {
     match command.as_str() {
         "compare" if known(rest, &["--count", "--tickets", "--seed"]) => {
             let count = number(rest, "--count", 2_000_000)?;
-            let tickets = number(rest, "--tickets", 2_880_000)?;
+            let tickets = number(rest, "--tickets", 15_000 * kinds::SHARES)?;
             let seed = number(rest, "--seed", 1)?;
             let ready = smoke::run() & faults_noticed(seed);
             let functions = compare::run(count, seed);
@@ -92,6 +118,8 @@ fn run(words: &[String]) -> Option<bool> {
         "bench" if rest.is_empty() => {
             bench::run();
             design_bench::run();
+            conversion_bench::run();
+            window_bench::run();
             Some(true)
         }
         _ => None,

@@ -1,12 +1,14 @@
 //! The C functions of the port's static library, each with a safe wrapper.
 
+use crate::gains::GainReport;
 use crate::report::Report;
-use crate::tickets::{Band, Channels, Pulse, Spec};
+use crate::tickets::{Band, Cascade, Channels, Cosine, Form, Format, Pulse, Section, Spec, Window};
 
 mod border {
+    use crate::gains::GainReport;
     use crate::report::Report;
 
-    #[link(name = "border", kind = "static")]
+    #[link(name = "peldozkar", kind = "static")]
     unsafe extern "C" {
         pub fn pel_floor(x: f64) -> f64;
         pub fn pel_ceil(x: f64) -> f64;
@@ -95,6 +97,53 @@ mod border {
             out: *mut u8,
             bytes: usize,
         ) -> Report;
+        pub fn pel_rrc_len(samples: u64, span: u64) -> Report;
+        pub fn pel_rrc_new(rolloff: f64, samples: u64, span: u64) -> Report;
+        pub fn pel_rrc(rolloff: f64, samples: u64, span: u64, out: *mut u8, bytes: usize)
+        -> Report;
+        pub fn pel_biquad_coefs(
+            response: u64,
+            centre: f64,
+            q: f64,
+            rate: f64,
+            out: *mut u8,
+            bytes: usize,
+        ) -> Report;
+        pub fn pel_butterworth_sos(
+            response: u64,
+            order: u64,
+            cutoff: f64,
+            rate: f64,
+            out: *mut u8,
+            bytes: usize,
+        ) -> Report;
+        pub fn pel_preemphasis_coefs(tau: f64, rate: f64, out: *mut u8, bytes: usize) -> Report;
+        pub fn pel_q14_from_f64(x: f64) -> Report;
+        pub fn pel_to_q14(
+            source: *const u8,
+            source_bytes: usize,
+            out: *mut u8,
+            bytes: usize,
+        ) -> Report;
+        pub fn pel_to_f32(
+            source: *const u8,
+            source_bytes: usize,
+            out: *mut u8,
+            bytes: usize,
+        ) -> Report;
+        pub fn pel_to_f32_sos(
+            source: *const u8,
+            source_bytes: usize,
+            out: *mut u8,
+            bytes: usize,
+        ) -> Report;
+        pub fn pel_hann_f32(symmetry: u64, out: *mut u8, bytes: usize) -> Report;
+        pub fn pel_hann_q15(symmetry: u64, out: *mut u8, bytes: usize) -> Report;
+        pub fn pel_blackman_harris_f32(symmetry: u64, out: *mut u8, bytes: usize) -> Report;
+        pub fn pel_blackman_harris_q15(symmetry: u64, out: *mut u8, bytes: usize) -> Report;
+        pub fn pel_kaiser_f32(beta: f64, symmetry: u64, out: *mut u8, bytes: usize) -> Report;
+        pub fn pel_kaiser_q15(beta: f64, symmetry: u64, out: *mut u8, bytes: usize) -> Report;
+        pub fn pel_window_gain(source: *const u8, source_bytes: usize) -> GainReport;
     }
 }
 
@@ -291,4 +340,102 @@ pub fn q15_tap(tap: f64) -> Report {
 
 pub fn to_q15(source: &[u8], out: &mut [u8]) -> Report {
     unsafe { border::pel_to_q15(source.as_ptr(), source.len(), out.as_mut_ptr(), out.len()) }
+}
+
+pub fn rrc_len(samples: u64, span: u64) -> Report {
+    unsafe { border::pel_rrc_len(samples, span) }
+}
+
+pub fn rrc_new(cosine: &Cosine) -> Report {
+    unsafe { border::pel_rrc_new(cosine.rolloff, cosine.samples, cosine.span) }
+}
+
+pub fn rrc(cosine: &Cosine, out: &mut [u8]) -> Report {
+    unsafe {
+        border::pel_rrc(
+            cosine.rolloff,
+            cosine.samples,
+            cosine.span,
+            out.as_mut_ptr(),
+            out.len(),
+        )
+    }
+}
+
+pub fn biquad_coefs(section: &Section, out: &mut [u8]) -> Report {
+    unsafe {
+        border::pel_biquad_coefs(
+            section.response,
+            section.centre,
+            section.q,
+            section.rate,
+            out.as_mut_ptr(),
+            out.len(),
+        )
+    }
+}
+
+pub fn butterworth_sos(cascade: &Cascade, out: &mut [u8]) -> Report {
+    unsafe {
+        border::pel_butterworth_sos(
+            cascade.response,
+            cascade.order,
+            cascade.cutoff,
+            cascade.rate,
+            out.as_mut_ptr(),
+            out.len(),
+        )
+    }
+}
+
+pub fn preemphasis_coefs(tau: f64, rate: f64, out: &mut [u8]) -> Report {
+    unsafe { border::pel_preemphasis_coefs(tau, rate, out.as_mut_ptr(), out.len()) }
+}
+
+pub fn q14_from_f64(x: f64) -> Report {
+    unsafe { border::pel_q14_from_f64(x) }
+}
+
+pub fn to_q14(source: &[u8], out: &mut [u8]) -> Report {
+    unsafe { border::pel_to_q14(source.as_ptr(), source.len(), out.as_mut_ptr(), out.len()) }
+}
+
+pub fn to_f32(source: &[u8], out: &mut [u8]) -> Report {
+    unsafe { border::pel_to_f32(source.as_ptr(), source.len(), out.as_mut_ptr(), out.len()) }
+}
+
+pub fn to_f32_sos(source: &[u8], out: &mut [u8]) -> Report {
+    unsafe { border::pel_to_f32_sos(source.as_ptr(), source.len(), out.as_mut_ptr(), out.len()) }
+}
+
+/// The window of a form and a format, each of which is a function of its own.
+pub fn window(window: &Window, out: &mut [u8]) -> Report {
+    let Window {
+        form,
+        format,
+        symmetry,
+    } = *window;
+    let (start, bytes) = (out.as_mut_ptr(), out.len());
+    unsafe {
+        match (form, format) {
+            (Form::Hann, Format::F32) => border::pel_hann_f32(symmetry, start, bytes),
+            (Form::Hann, Format::Q15) => border::pel_hann_q15(symmetry, start, bytes),
+            (Form::BlackmanHarris, Format::F32) => {
+                border::pel_blackman_harris_f32(symmetry, start, bytes)
+            }
+            (Form::BlackmanHarris, Format::Q15) => {
+                border::pel_blackman_harris_q15(symmetry, start, bytes)
+            }
+            (Form::Kaiser { beta }, Format::F32) => {
+                border::pel_kaiser_f32(beta, symmetry, start, bytes)
+            }
+            (Form::Kaiser { beta }, Format::Q15) => {
+                border::pel_kaiser_q15(beta, symmetry, start, bytes)
+            }
+        }
+    }
+}
+
+pub fn window_gain(source: &[u8]) -> GainReport {
+    unsafe { border::pel_window_gain(source.as_ptr(), source.len()) }
 }

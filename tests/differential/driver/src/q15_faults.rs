@@ -3,7 +3,9 @@
 use crate::designers::{self, Answer};
 use crate::q15_inputs::{LIMIT, is_taken};
 use crate::report::Report;
-use crate::ticket_faults::{Fault, bytes_refused, changed, faults, right, swapped, write_q15};
+use crate::ticket_faults::{
+    Fault, bytes_refused, changed, faults, reshaped_fixed, right, swapped, write_fixed,
+};
 use crate::tickets::{Kind, Source, Ticket};
 
 fn source(ticket: &Ticket) -> &Source {
@@ -33,16 +35,6 @@ fn rounded(ticket: &Ticket, buffer: &mut [u8], round: fn(f64) -> f64) -> Report 
     } else {
         report
     }
-}
-
-/// The right report, its numbers made of the elements in another way.
-fn reshaped(ticket: &Ticket, buffer: &mut [u8], change: impl FnOnce(&mut Vec<i16>)) -> Report {
-    let Answer {
-        report, mut q15, ..
-    } = designers::rust(ticket);
-    change(&mut q15);
-    write_q15(&q15, buffer);
-    report
 }
 
 /// The first element that isn't taken, as the refusal names it.
@@ -170,7 +162,7 @@ pub const FAULTS: &[Fault] = faults![
     };
     ToQ15, "halves rounded away from zero", |ticket, buffer| {
         let elements = &source(ticket).elements;
-        reshaped(ticket, buffer, |numbers| {
+        reshaped_fixed(ticket, buffer, |numbers| {
             for (number, x) in numbers.iter_mut().zip(elements) {
                 *number = (32768.0 * x).round() as i16;
             }
@@ -178,7 +170,7 @@ pub const FAULTS: &[Fault] = faults![
     };
     ToQ15, "the half added without an error", |ticket, buffer| {
         let elements = &source(ticket).elements;
-        reshaped(ticket, buffer, |numbers| {
+        reshaped_fixed(ticket, buffer, |numbers| {
             for (number, x) in numbers.iter_mut().zip(elements) {
                 let v = 32768.0 * x;
                 *number = (if v - v.floor() < 0.5 { v.floor() } else { v.floor() + 1.0 }) as i16;
@@ -193,9 +185,9 @@ pub const FAULTS: &[Fault] = faults![
         report
     };
     ToQ15, "the prefix not written", |ticket, buffer| {
-        let Answer { report, q15, .. } = designers::rust(ticket);
+        let Answer { report, fixed, .. } = designers::rust(ticket);
         if report.is_accepted() {
-            write_q15(&q15, buffer);
+            write_fixed(&fixed, buffer);
         }
         report
     };
@@ -216,7 +208,7 @@ pub const FAULTS: &[Fault] = faults![
     ToQ15, "the element that isn't taken written too", |ticket, buffer| {
         let elements = &source(ticket).elements;
         let report = designers::rust(ticket).report;
-        reshaped(ticket, buffer, |numbers| {
+        reshaped_fixed(ticket, buffer, |numbers| {
             if report.number == 11 {
                 numbers.push(saturated(elements[report.index as usize]));
             }
@@ -227,17 +219,17 @@ pub const FAULTS: &[Fault] = faults![
         if report.number == 11 {
             for (i, &x) in source(ticket).elements.iter().enumerate() {
                 if is_taken(x) {
-                    write_q15(&[saturated(x)], &mut buffer[2 * i..]);
+                    write_fixed(&[saturated(x)], &mut buffer[2 * i..]);
                 }
             }
         }
         report
     };
     ToQ15, "only element 0 converted", |ticket, buffer| {
-        reshaped(ticket, buffer, |numbers| numbers.truncate(1))
+        reshaped_fixed(ticket, buffer, |numbers| numbers.truncate(1))
     };
     ToQ15, "the last element left out", |ticket, buffer| {
-        reshaped(ticket, buffer, |numbers| {
+        reshaped_fixed(ticket, buffer, |numbers| {
             numbers.pop();
         })
     };
@@ -317,19 +309,19 @@ pub const FAULTS: &[Fault] = faults![
         if report.number == 8 {
             let taken = |x: &f64| is_taken(*x);
             let elements = source(ticket).elements.iter().copied().take_while(taken);
-            write_q15(&elements.map(saturated).collect::<Vec<_>>(), buffer);
+            write_fixed(&elements.map(saturated).collect::<Vec<_>>(), buffer);
         }
         report
     };
     ToQ15, "the bytes the other way round", |ticket, buffer| {
-        reshaped(ticket, buffer, |numbers| {
+        reshaped_fixed(ticket, buffer, |numbers| {
             for number in numbers.iter_mut() {
                 *number = number.swap_bytes();
             }
         })
     };
     ToQ15, "the elements the other way round", |ticket, buffer| {
-        reshaped(ticket, buffer, |numbers| numbers.reverse())
+        reshaped_fixed(ticket, buffer, |numbers| numbers.reverse())
     };
     ToQ15, "the count in bytes", |ticket, buffer| {
         let report = right(ticket, buffer);
@@ -343,7 +335,7 @@ pub const FAULTS: &[Fault] = faults![
         let report = right(ticket, buffer);
         if report.number == 11 {
             let numbers: Vec<i16> = source(ticket).elements.iter().map(|&x| saturated(x)).collect();
-            write_q15(&numbers, buffer);
+            write_fixed(&numbers, buffer);
             Report::accepted(numbers.len() as u64, 0.0)
         } else {
             report

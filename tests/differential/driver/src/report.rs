@@ -9,6 +9,11 @@ pub fn bits(x: f64) -> u64 {
     }
 }
 
+/// The bits of an f32 in a word, those of a NaN always the same.
+pub fn single_bits(x: f32) -> u64 {
+    u64::from(if x.is_nan() { 0x7FC0_0000 } else { x.to_bits() })
+}
+
 /// What a refusal carries beside its number, as its code's place in this row.
 pub const CARRIES: [&str; 5] = ["plain", "range", "length", "cap", "element"];
 

@@ -3,6 +3,7 @@
 use sdrk_blocks::access::Lowpass;
 use sdrk_blocks::design::{DesignWindow, halfband_len, kaiserord, rrc_len};
 use sdrk_core::kernels::channelize::{MAX_CHANNELS, MIN_CHANNELS};
+use sdrk_core::num::q14_from_f64;
 use sdrk_core::window::bessel_i0;
 
 use crate::designers::rust;
@@ -49,11 +50,15 @@ pub fn run() -> bool {
         rest: 0,
     };
     let converted = rust(&Ticket::ToQ15 { source, bytes: 6 });
+    let rrc = |samples, span| rust(&Ticket::RrcLen { samples, span }).report;
+    let q14 = |x| rust(&Ticket::Q14FromF64 { x }).report;
+    let half = 1.0 / 32768.0;
     let answers = [
         bessel_i0(0.0) == 1.0,
         kaiserord(8.0, 1.0, 1.0) == Ok((3, 0.0)),
         kaiserord(60.0, -100.0, -8000.0).is_ok_and(|(n, _)| n == 293),
         halfband_len(-100.0, 60.0, -8000.0) == Ok(295),
+        rrc_len(2, 4) == Ok(9),
         rrc_len(1024, 32) == Ok(32769),
         rrc_len(1, 4).is_err(),
         one_tap.is_ok_and(|lowpass| lowpass.tap(0) == 1.0 && lowpass.divisor() == 0.5),
@@ -81,7 +86,13 @@ pub fn run() -> bool {
         [q15(1.0).value, q15(-1.0).value] == [32767.0, -32768.0],
         [q15(1.0 / 65536.0).value, q15(-1.0 / 65536.0).value] == [1.0, 0.0],
         [q15(1.01).number, q15(f64::NAN).number] == [11, 11],
-        converted.report.index == 2 && converted.q15 == [32767, -32768],
+        converted.report.index == 2 && converted.fixed == [32767, -32768],
+        [rrc(2, 4).count, rrc(1024, 32).count] == [9, 32769],
+        (rrc(1, 4).number, rrc(1, 4).largest) == (6, 1024.0),
+        q14_from_f64(-2.0 - half) == Some(-32768),
+        q14_from_f64(2.0 - half).is_none(),
+        q14(-2.0 - half).value == -32768.0,
+        (q14(2.0 - half).number, q14(2.0 - half).largest) == (11, 2.0 - 2.0 * half),
     ];
     let right = answers.iter().filter(|&&answer| answer).count();
     println!("the Rust files: {right} of {} known answers", answers.len());

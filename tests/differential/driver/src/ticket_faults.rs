@@ -7,8 +7,9 @@ use crate::designers::{self, Answer};
 use crate::report::Report;
 use crate::ticket_compare::Side;
 use crate::tickets::{Kind, Ticket};
-use crate::{channelizer_faults, gaussian_faults, halfband_faults, kaiser_faults};
-use crate::{lowpass_faults, q15_faults, spec_faults};
+use crate::{butterworth_faults, channelizer_faults, f32_faults, gain_faults, gaussian_faults};
+use crate::{halfband_faults, kaiser_faults, lowpass_faults, q14_faults, q15_faults, rrc_faults};
+use crate::{section_faults, spec_faults, window_faults};
 
 /// A wrong designer in place of the one named.
 pub struct Fault {
@@ -19,11 +20,11 @@ pub struct Fault {
 
 /// A row of faults: the kind, what is wrong, and the answer to a ticket with a buffer.
 macro_rules! faults {
-    ($($kind:ident, $what:literal, |$ticket:ident, $buffer:ident| $wrong:expr;)*) => {
+    ($($kind:ident, $what:literal, $wrong:expr;)*) => {
         &[$(Fault {
             kind: Kind::$kind,
             what: $what,
-            wrong: |$ticket, $buffer| $wrong,
+            wrong: $wrong,
         }),*]
     };
 }
@@ -31,7 +32,7 @@ macro_rules! faults {
 pub(crate) use faults;
 
 /// All of them, by the designers.
-pub const FAULTS: [&[Fault]; 7] = [
+pub const FAULTS: [&[Fault]; 14] = [
     kaiser_faults::FAULTS,
     lowpass_faults::FAULTS,
     spec_faults::FAULTS,
@@ -39,13 +40,26 @@ pub const FAULTS: [&[Fault]; 7] = [
     gaussian_faults::FAULTS,
     channelizer_faults::FAULTS,
     q15_faults::FAULTS,
+    rrc_faults::FAULTS,
+    section_faults::FAULTS,
+    butterworth_faults::FAULTS,
+    q14_faults::FAULTS,
+    f32_faults::FAULTS,
+    window_faults::FAULTS,
+    gain_faults::FAULTS,
 ];
 
 /// The Rust side's answer, what it writes written as the port writes it.
 pub fn right(ticket: &Ticket, buffer: &mut [u8]) -> Report {
-    let Answer { report, taps, q15 } = designers::rust(ticket);
+    let Answer {
+        report,
+        taps,
+        fixed,
+        singles,
+    } = designers::rust(ticket);
     write(&taps, buffer);
-    write_q15(&q15, buffer);
+    write_fixed(&fixed, buffer);
+    write_singles(&singles, buffer);
     report
 }
 
@@ -55,9 +69,15 @@ pub fn write(taps: &[f64], buffer: &mut [u8]) {
     }
 }
 
-pub fn write_q15(numbers: &[i16], buffer: &mut [u8]) {
+pub fn write_fixed(numbers: &[i16], buffer: &mut [u8]) {
     for (bytes, number) in buffer.chunks_exact_mut(2).zip(numbers) {
         bytes.copy_from_slice(&number.to_le_bytes());
+    }
+}
+
+pub fn write_singles(samples: &[f32], buffer: &mut [u8]) {
+    for (bytes, sample) in buffer.chunks_exact_mut(4).zip(samples) {
+        bytes.copy_from_slice(&sample.to_le_bytes());
     }
 }
 
@@ -73,11 +93,50 @@ pub fn reshaped(ticket: &Ticket, buffer: &mut [u8], change: impl FnOnce(&mut Vec
     report
 }
 
+/// The Rust side's report and its Q15 or Q14 numbers as `change` has made them, also after an 11.
+pub fn reshaped_fixed(
+    ticket: &Ticket,
+    buffer: &mut [u8],
+    change: impl FnOnce(&mut Vec<i16>),
+) -> Report {
+    let Answer {
+        report, mut fixed, ..
+    } = designers::rust(ticket);
+    change(&mut fixed);
+    write_fixed(&fixed, buffer);
+    report
+}
+
+/// The Rust side's report and its f32s as `change` has made them.
+pub fn reshaped_singles(
+    ticket: &Ticket,
+    buffer: &mut [u8],
+    change: impl FnOnce(&mut Vec<f32>),
+) -> Report {
+    let Answer {
+        report,
+        mut singles,
+        ..
+    } = designers::rust(ticket);
+    change(&mut singles);
+    write_singles(&singles, buffer);
+    report
+}
+
 /// The right answer, before which something is written that a refusal must leave.
 pub fn spoilt(ticket: &Ticket, buffer: &mut [u8], number: u32) -> Report {
     let report = right(ticket, buffer);
     if report.number == number {
         write(&[1.0], buffer);
+    }
+    report
+}
+
+/// The right answer, but on a refusal `number` the buffer is cleared.
+pub fn cleared(ticket: &Ticket, buffer: &mut [u8], number: u32) -> Report {
+    let report = right(ticket, buffer);
+    if report.number == number {
+        buffer.fill(0);
     }
     report
 }

@@ -1,53 +1,12 @@
 //! The tickets that the designers are asked with, and the kinds they come in.
 
-use crate::report::bits;
+pub use crate::asked::{
+    Band, Cascade, Channels, Cosine, Form, Format, Pulse, Samples, Section, Source, Spec, Window,
+};
+use crate::report::{bits, single_bits};
 
 /// The largest count of `kaiserord`: 2^24 made odd.
 pub const LARGEST_COUNT: u64 = (1 << 24) + 1;
-
-/// What a low-pass is asked for, without its length.
-#[derive(Clone, Copy, Debug)]
-pub struct Band {
-    pub cutoff: f64,
-    pub rate: f64,
-    /// 0 Hann, 1 Hamming, 2 Blackman, 3 Kaiser.
-    pub window: u64,
-    pub beta: f64,
-}
-
-/// What a spec is asked for, without the length of a buffer.
-#[derive(Clone, Copy, Debug)]
-pub struct Spec {
-    pub cutoff: f64,
-    pub transition: f64,
-    pub attenuation: f64,
-    pub rate: f64,
-    pub max_taps: u64,
-}
-
-/// What a Gaussian pulse is asked for.
-#[derive(Clone, Copy, Debug)]
-pub struct Pulse {
-    pub bt: f64,
-    pub samples: u64,
-    pub span: u64,
-}
-
-/// What a channelizer is asked for, without the taps of a branch.
-#[derive(Clone, Copy, Debug)]
-pub struct Channels {
-    pub channels: u64,
-    pub passband: f64,
-    pub stopband: f64,
-    pub attenuation: f64,
-}
-
-/// The elements of a conversion, and how many bytes of another one follow them.
-#[derive(Clone, Debug)]
-pub struct Source {
-    pub elements: Vec<f64>,
-    pub rest: u64,
-}
 
 /// One question to a designer, in the argument order of its C function.
 #[derive(Clone, Debug)]
@@ -129,67 +88,67 @@ pub enum Ticket {
         source: Source,
         bytes: u64,
     },
-}
-
-impl Band {
-    fn words(&self) -> Vec<u64> {
-        vec![
-            bits(self.cutoff),
-            bits(self.rate),
-            self.window,
-            bits(self.beta),
-        ]
-    }
-}
-
-impl Spec {
-    fn words(&self) -> Vec<u64> {
-        vec![
-            bits(self.cutoff),
-            bits(self.transition),
-            bits(self.attenuation),
-            bits(self.rate),
-            self.max_taps,
-        ]
-    }
-}
-
-impl Pulse {
-    fn words(&self) -> Vec<u64> {
-        vec![bits(self.bt), self.samples, self.span]
-    }
-}
-
-impl Channels {
-    fn words(&self, branch: Option<u64>) -> Vec<u64> {
-        let mut words = vec![self.channels];
-        words.extend(branch);
-        words.extend([
-            bits(self.passband),
-            bits(self.stopband),
-            bits(self.attenuation),
-        ]);
-        words
-    }
-}
-
-impl Source {
-    /// The length in bytes.
-    pub fn length(&self) -> u64 {
-        8 * self.elements.len() as u64 + self.rest
-    }
+    RrcLen {
+        samples: u64,
+        span: u64,
+    },
+    RrcNew {
+        cosine: Cosine,
+    },
+    Rrc {
+        cosine: Cosine,
+        bytes: u64,
+    },
+    BiquadCoefs {
+        section: Section,
+        bytes: u64,
+    },
+    ButterworthSos {
+        cascade: Cascade,
+        bytes: u64,
+    },
+    PreemphasisCoefs {
+        tau: f64,
+        rate: f64,
+        bytes: u64,
+    },
+    Q14FromF64 {
+        x: f64,
+    },
+    ToQ14 {
+        source: Source,
+        bytes: u64,
+    },
+    ToF32 {
+        source: Source,
+        bytes: u64,
+    },
+    ToF32Sos {
+        source: Source,
+        bytes: u64,
+    },
+    /// A window of any form and format, each of which is a function of its own.
+    Window {
+        window: Window,
+        bytes: u64,
+    },
+    WindowGain {
+        samples: Samples,
+    },
 }
 
 impl Ticket {
     /// The arguments in their order, numbers by their bits, a buffer by its length in bytes. A
-    /// conversion has its elements last, so that each argument before them has a fixed place.
+    /// source has its elements last, so that each argument before them has a fixed place.
     pub fn words(&self) -> Vec<u64> {
         let and = |mut words: Vec<u64>, last: u64| {
             words.push(last);
             words
         };
         match *self {
-            Self::BesselI0 { x } | Self::Q15FromF64 { x } => vec![bits(x)],
+            Self::BesselI0 { x } | Self::Q15FromF64 { x } | Self::Q14FromF64 { x } => {
+                vec![bits(x)]
+            }
             Self::KaiserBeta { attenuation } => vec![bits(attenuation)],
             Self::Kaiserord {
                 ripple,
@@ -220,9 +179,24 @@ impl Ticket {
                 bytes,
             } => and(channels.words(Some(branch)), bytes),
             Self::Q15Tap { tap } => vec![bits(tap)],
-            Self::ToQ15 { ref source, bytes } => {
+            Self::ToQ15 { ref source, bytes }
+            | Self::ToQ14 { ref source, bytes }
+            | Self::ToF32 { ref source, bytes }
+            | Self::ToF32Sos { ref source, bytes } => {
                 let mut words = vec![bytes, source.length()];
                 words.extend(source.elements.iter().map(|&x| bits(x)));
+                words
+            }
+            Self::RrcLen { samples, span } => vec![samples, span],
+            Self::RrcNew { cosine } => cosine.words(),
+            Self::Rrc { cosine, bytes } => and(cosine.words(), bytes),
+            Self::BiquadCoefs { section, bytes } => and(section.words(), bytes),
+            Self::ButterworthSos { cascade, bytes } => and(cascade.words(), bytes),
+            Self::PreemphasisCoefs { tau, rate, bytes } => vec![bits(tau), bits(rate), bytes],
+            Self::Window { window, bytes } => and(window.words(), bytes),
+            Self::WindowGain { ref samples } => {
+                let mut words = vec![samples.length()];
+                words.extend(samples.elements.iter().map(|&x| single_bits(x)));
                 words
             }
         }
@@ -287,7 +261,63 @@ impl Ticket {
     /// What a conversion is given.
     pub fn source(&self) -> Option<&Source> {
         match self {
-            Self::ToQ15 { source, .. } => Some(source),
+            Self::ToQ15 { source, .. }
+            | Self::ToQ14 { source, .. }
+            | Self::ToF32 { source, .. }
+            | Self::ToF32Sos { source, .. } => Some(source),
+            _ => None,
+        }
+    }
+
+    /// What a root-raised-cosine pulse is asked for; where no roll-off is, one that is taken.
+    pub fn cosine(&self) -> Option<Cosine> {
+        match *self {
+            Self::RrcLen { samples, span } => Some(Cosine {
+                rolloff: 0.5,
+                samples,
+                span,
+            }),
+            Self::RrcNew { cosine } | Self::Rrc { cosine, .. } => Some(cosine),
+            _ => None,
+        }
+    }
+
+    /// What a second-order section is asked for.
+    pub fn section(&self) -> Option<Section> {
+        match *self {
+            Self::BiquadCoefs { section, .. } => Some(section),
+            _ => None,
+        }
+    }
+
+    /// What a Butterworth filter is asked for.
+    pub fn cascade(&self) -> Option<Cascade> {
+        match *self {
+            Self::ButterworthSos { cascade, .. } => Some(cascade),
+            _ => None,
+        }
+    }
+
+    /// The time constant and the rate of a pre-emphasis.
+    pub fn preemphasis(&self) -> Option<(f64, f64)> {
+        match *self {
+            Self::PreemphasisCoefs { tau, rate, .. } => Some((tau, rate)),
+            _ => None,
+        }
+    }
+
+    /// What a window is asked for.
+    pub fn window(&self) -> Option<Window> {
+        match *self {
+            Self::Window { window, .. } => Some(window),
+            _ => None,
+        }
+    }
+
+    /// The samples whose gain is asked for.
+    pub fn samples(&self) -> Option<&Samples> {
+        match self {
+            Self::WindowGain { samples } => Some(samples),
             _ => None,
         }
     }
@@ -300,7 +330,15 @@ impl Ticket {
             | Self::Halfband { bytes, .. }
             | Self::Gaussian { bytes, .. }
             | Self::ChannelizerPrototype { bytes, .. }
-            | Self::ToQ15 { bytes, .. } => bytes,
+            | Self::ToQ15 { bytes, .. }
+            | Self::Rrc { bytes, .. }
+            | Self::BiquadCoefs { bytes, .. }
+            | Self::ButterworthSos { bytes, .. }
+            | Self::PreemphasisCoefs { bytes, .. }
+            | Self::ToQ14 { bytes, .. }
+            | Self::ToF32 { bytes, .. }
+            | Self::ToF32Sos { bytes, .. }
+            | Self::Window { bytes, .. } => bytes,
             _ => 0,
         }
     }
@@ -330,4 +368,21 @@ pub enum Kind {
     Q15FromF64,
     Q15Tap,
     ToQ15,
+    RrcLen,
+    RrcNew,
+    Rrc,
+    BiquadCoefs,
+    ButterworthSos,
+    PreemphasisCoefs,
+    Q14FromF64,
+    ToQ14,
+    ToF32,
+    ToF32Sos,
+    HannF32,
+    HannQ15,
+    BlackmanHarrisF32,
+    BlackmanHarrisQ15,
+    KaiserF32,
+    KaiserQ15,
+    WindowGain,
 }
