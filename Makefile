@@ -7,9 +7,13 @@ LIB = target/lib/libpeldozkar.a
 # The crates with exports: each makes one object, and the library holds them all.
 EXPORTS = border border_formats border_sections border_windows
 DESIGN = tools/design.c tools/kinds.c tools/forms.c tools/words.c
+# Where `make install` puts things, below DESTDIR if that is said, and the version that pkg-config tells.
+PREFIX ?= /usr/local
+DESTDIR ?=
+VERSION = 0.1.0
 SOURCES = $(shell find crates -name '*.rt' -o -name '*.antt') crates.txt
 
-.PHONY: run functions test lib c tool compare bench list distance clean
+.PHONY: run functions test lib install uninstall c tool examples compare bench list distance clean rust scipy
 .SECONDARY:
 
 # What `make run` designs; say another one as in: make run ARGS="spec --cutoff 1000 --transition 200 --attenuation 60 --rate 8000"
@@ -33,6 +37,14 @@ $(LIB): $(SOURCES)
 	for crate in $(EXPORTS); do rt staticlib $$crate >target/staticlib.log 2>&1 || { cat target/staticlib.log; exit 1; }; (cd target/lib && ar x ../staticlib/lib$$crate.a $$crate.o) || exit 1; done
 	cd target/lib && ar rcs libpeldozkar.a $(EXPORTS:=.o)
 
+# The library, the header and a file for pkg-config below PREFIX: all three, or none with the reason.
+install: $(LIB)
+	tools/install '$(LIB)' '$(VERSION)' '$(PREFIX)' '$(DESTDIR)'
+
+# Takes them away again.
+uninstall:
+	tools/install --remove '$(PREFIX)' '$(DESTDIR)'
+
 target/tools/design target/tools/functions: target/tools/%: tools/%.c include/peldozkar.h $(LIB)
 	mkdir -p target/tools
 	$(CC) $(CFLAGS) $(STRICT) $(filter %.c,$^) -o $@ $(LIB)
@@ -49,6 +61,18 @@ tool: target/tools/design
 	mkdir -p target/tests
 	$(CC) $(STRICT) $(CHECKED) -Dpel_gaussian=wide_gaussian $(DESIGN) tests/c/wide.c -o target/tests/wide $(LIB)
 	tests/tool target/tools/design target/tests/wide
+
+# The programs of examples/c against an installed tree, and installing itself.
+examples: $(LIB)
+	tests/examples
+
+# The exports called from Rust, through the crate rust/peldozkar; skipped in one line where cargo isn't installed.
+rust: $(LIB)
+	tests/rust
+
+# The designs against SciPy and NumPy, each within a stated bound; skipped in one line where SciPy is not installed.
+scipy: $(LIB)
+	CC="$(CC)" tests/scipy/run $(LIB)
 
 # Both sides on the same inputs, by bits; skipped in one line where the Rust files are not at hand.
 compare: $(LIB)

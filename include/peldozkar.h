@@ -2,7 +2,8 @@
  *
  * Link with libpeldozkar.a, which `make lib` writes. Each function is proved to give the value that is
  * said here for every argument, NaN, infinities, zeros of both signs, subnormal numbers and
- * impossible counts included; it allocates nothing, keeps nothing, calls nothing and always returns.
+ * impossible counts included; it allocates nothing, keeps nothing, calls
+ * nothing but memset and always returns.
  * On the stack pel_lowpass, pel_spec_design, pel_halfband, pel_gaussian and pel_channelizer_prototype take
  * under 9 KB, the others under 1 KB (x86-64).
  *

@@ -1,5 +1,6 @@
-//! A window's gain and bandwidth: the C structure that tells them, and both sides' answers.
+//! A window's gain and bandwidth: both sides' answers.
 
+use peldozkar::raw::GainReport;
 use sdrk_core::window::window_gain;
 
 use crate::lent::Lent;
@@ -7,26 +8,7 @@ use crate::port;
 use crate::report::{Report, bits};
 use crate::tickets::Samples;
 
-/// The C structure of the answer. Fields that don't apply are 0.
-#[repr(C)]
-#[derive(Clone, Copy, Debug, Default)]
-pub struct GainReport {
-    number: u32,
-    carries: u32,
-    expected: u64,
-    given: u64,
-    count: u64,
-    gain: f64,
-    bandwidth: f64,
-}
-
-impl GainReport {
-    pub fn is_accepted(&self) -> bool {
-        self.number == 0
-    }
-}
-
-/// The same in the form that all tickets are compared in: the gain is the value, and the bandwidth
+/// The port's answer in the form that all tickets are compared in: the gain is the value, and the bandwidth
 /// stands where a refusal has what was offered, which this one never has.
 impl From<GainReport> for Report {
     fn from(report: GainReport) -> Self {

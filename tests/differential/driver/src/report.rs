@@ -1,5 +1,7 @@
 //! The report that every designer answers with: a refusal with what it carries, or the figures.
 
+use peldozkar::raw;
+
 /// The bits of a number, those of a NaN always the same.
 pub fn bits(x: f64) -> u64 {
     if x.is_nan() {
@@ -17,8 +19,7 @@ pub fn single_bits(x: f32) -> u64 {
 /// What a refusal carries beside its number, as its code's place in this row.
 pub const CARRIES: [&str; 5] = ["plain", "range", "length", "cap", "element"];
 
-/// The C structure of an answer. Fields that don't apply are 0.
-#[repr(C)]
+/// An answer, with the fields of the C structure. Those that don't apply are 0.
 #[derive(Clone, Copy, Debug, Default)]
 pub struct Report {
     /// 0 where the ticket is accepted, else the refusal's number.
@@ -114,5 +115,35 @@ impl Report {
     /// Whether every field is the same, any NaN being the same as any other.
     pub fn same(&self, other: &Self) -> bool {
         self.words() == other.words()
+    }
+}
+
+/// The port's answer.
+impl From<raw::Report> for Report {
+    fn from(report: raw::Report) -> Self {
+        let raw::Report {
+            number,
+            carries,
+            smallest,
+            largest,
+            offered,
+            expected,
+            given,
+            index,
+            count,
+            value,
+        } = report;
+        Self {
+            number,
+            carries,
+            smallest,
+            largest,
+            offered,
+            expected,
+            given,
+            index,
+            count,
+            value,
+        }
     }
 }

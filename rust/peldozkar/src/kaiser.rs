@@ -1,0 +1,78 @@
+//! Kaiser's formulas: the series, beta, the number of taps; and the delay of a filter.
+
+use crate::Error;
+use crate::raw;
+
+/// A power series' sum, and how many of its terms were taken.
+#[derive(Clone, Copy, Debug, PartialEq)]
+pub struct Series {
+    /// The sum.
+    pub sum: f64,
+    /// The terms taken, 1 to 500.
+    pub terms: u64,
+}
+
+/// The modified Bessel function of order 0 by its power series, which stops after the first term below 1e-17
+/// of the sum.
+///
+/// ```
+/// use peldozkar::{Series, bessel_i0};
+///
+/// assert_eq!(bessel_i0(0.0), Series { sum: 1.0, terms: 1 });
+/// ```
+pub fn bessel_i0(x: f64) -> Series {
+    let report = raw::pel_bessel_i0(x);
+    Series {
+        sum: report.value,
+        terms: report.count,
+    }
+}
+
+/// The shape of Kaiser's window for an attenuation in dB: 0.1102 (a - 8.7) above 50, 0.5842 (a - 21)^0.4 +
+/// 0.07886 (a - 21) from 21 to 50, else 0, also for NaN.
+///
+/// ```
+/// assert_eq!(peldozkar::kaiser_beta(60.0), 0.1102 * (60.0 - 8.7));
+/// assert_eq!(peldozkar::kaiser_beta(f64::NAN), 0.0);
+/// ```
+pub fn kaiser_beta(attenuation: f64) -> f64 {
+    raw::pel_kaiser_beta(attenuation)
+}
+
+/// The taps, an odd number, and beta for a ripple in dB and a transition at a rate.
+///
+/// # Errors
+///
+/// Refused: 4 a ripple whose size isn't finite or is below 8; 3 where 2 transition / rate isn't finite and
+/// positive; 3 with (0, rate, transition) where more than 2^24 taps are estimated.
+///
+/// # Examples
+///
+/// ```
+/// # fn main() -> Result<(), peldozkar::Error> {
+/// let (taps, beta) = peldozkar::kaiserord(60.0, 100.0, 8000.0)?;
+/// assert_eq!(taps, 293);
+/// assert_eq!(beta, peldozkar::kaiser_beta(60.0));
+/// # Ok(())
+/// # }
+/// ```
+pub fn kaiserord(ripple: f64, transition: f64, rate: f64) -> Result<(u64, f64), Error> {
+    let report = raw::pel_kaiserord(ripple, transition, rate).taken()?;
+    Ok((report.count, report.value))
+}
+
+/// The delay of a linear-phase filter in samples: (taps - 1)/2, rounded down.
+///
+/// # Errors
+///
+/// Refused: 6 no taps.
+///
+/// # Examples
+///
+/// ```
+/// assert_eq!(peldozkar::delay(31), Ok(15));
+/// assert!(peldozkar::delay(0).is_err());
+/// ```
+pub fn delay(taps: u64) -> Result<u64, Error> {
+    raw::pel_delay(taps).counted()
+}

@@ -1,0 +1,79 @@
+//! Filter designs whose every answer is proved: FIR and IIR coefficients, conversions to Q15, Q14 and f32,
+//! and windows. Safe Rust over `libpeldozkar.a`, without `std`, without allocation, without dependencies.
+//!
+//! A first filter: 31 taps, a quarter of the band.
+//!
+//! ```
+//! # fn main() -> Result<(), peldozkar::Error> {
+//! use peldozkar::{Window, lowpass};
+//!
+//! let mut taps = [0.0; 31];
+//! let design = lowpass(1000.0, 8000.0, Window::Kaiser(5.65326), &mut taps)?;
+//! assert_eq!(design.taps, 31);
+//! assert!((taps.iter().sum::<f64>() - 1.0).abs() < 1e-14);
+//! # Ok(())
+//! # }
+//! ```
+//!
+//! Or by what it has to do, with Kaiser's formulas finding the number of taps: [`Spec`].
+//!
+//! # Filled or refused
+//!
+//! A buffer is filled completely, with the bits that every other reader computes, or the call is refused with
+//! an [`Error`] and the buffer is as it came. Only a conversion that stops at an element that its format can't
+//! take keeps the numbers before it. Every number can be offered, NaN, infinities and impossible counts
+//! included: nothing here panics.
+//!
+//! On the stack [`lowpass`], [`Spec::design`], [`halfband`], [`gaussian`] and [`channelizer_prototype`] take under
+//! 9 KB, the others under 1 KB (x86-64).
+//!
+//! # What is proved, and what isn't
+//!
+//! Proved, for every input: the exports of the library give the values of their definitions, write what they
+//! say and nothing else, and return. The C header, `include/peldozkar.h`, says for each of them what it
+//! answers and in which order it refuses; the repository's README says where the definitions are.
+//!
+//! Not proved: this crate. It lends slices to the exports as bytes, gives their codes names and their reports
+//! types, and computes nothing of its own. The comparison of the library with the Rust that it is a port of
+//! calls the exports through [`raw`].
+//!
+//! # Building
+//!
+//! The library is looked for in the folder that the variable `PEL_LIB_DIR` names (an absolute path); else
+//! where pkg-config says, if it knows `peldozkar`; else in the repository's own `target/lib`, where `make lib`
+//! writes it. For another machine than the one that builds, say `PEL_LIB_DIR`. The target must be
+//! little-endian, as the exports' buffers are; this crate doesn't compile for others.
+
+#![no_std]
+#![deny(missing_docs, unsafe_code, unsafe_op_in_unsafe_fn)]
+
+#[cfg(not(target_endian = "little"))]
+compile_error!(
+    "peldozkar lends numbers to its library as little-endian bytes: the target must be little-endian"
+);
+
+mod channelizer;
+mod elementary;
+mod error;
+mod formats;
+mod halfband;
+mod kaiser;
+mod lowpass;
+mod pulses;
+pub mod raw;
+mod sections;
+mod sys;
+mod windows;
+
+pub use channelizer::{
+    channelizer_lowpass, channelizer_prototype, channelizer_taps, channelizer_taps_per_branch,
+};
+pub use elementary::{ceil, cos, exp, fabs, floor, pow04, sin, sqrt};
+pub use error::{Carried, Error, Reason};
+pub use formats::{q14_from_f64, q15_from_f64, q15_tap, to_f32, to_f32_sos, to_q14, to_q15};
+pub use halfband::{halfband, halfband_len, halfband_new};
+pub use kaiser::{Series, bessel_i0, delay, kaiser_beta, kaiserord};
+pub use lowpass::{Design, Spec, Window, lowpass, lowpass_new};
+pub use pulses::{Rrc, gaussian, gaussian_new, rrc, rrc_len, rrc_new};
+pub use sections::{Response, biquad_coefs, butterworth_sos, preemphasis_coefs};
+pub use windows::{Gain, Sample, Symmetry, blackman_harris, hann, kaiser, window_gain};

@@ -1,0 +1,113 @@
+//! The exports as the C header has them: codes as numbers, buffers as bytes, answers as reports.
+//!
+//! Each has its name from `include/peldozkar.h`, which says what it answers, and a C pointer and its length
+//! are one slice of bytes here, at any alignment. So all of them are safe to call. The functions of the
+//! crate's root are made of these and are meant for everyday use; these serve where bytes are at hand, such
+//! as a buffer that isn't aligned, or where the report itself is wanted.
+//!
+//! ```
+//! use peldozkar::raw;
+//!
+//! let mut bytes = [0; 9];
+//! let report = raw::pel_lowpass(0.25, 1.0, raw::HANN, 0.0, &mut bytes[1..]);
+//! assert_eq!((report.number, report.count, report.value), (0, 1, 0.5));
+//! assert_eq!(bytes[1..], 1.0_f64.to_le_bytes());
+//!
+//! // Nine bytes aren't whole taps.
+//! let report = raw::pel_lowpass(0.25, 1.0, raw::HANN, 0.0, &mut bytes);
+//! assert_eq!((report.number, report.carries), (8, raw::LENGTH));
+//! assert_eq!((report.expected, report.given), (8, 9));
+//! ```
+
+pub use crate::sys::{
+    pel_bessel_i0, pel_biquad_coefs, pel_blackman_harris_f32, pel_blackman_harris_q15,
+    pel_butterworth_sos, pel_ceil, pel_channelizer_lowpass, pel_channelizer_prototype,
+    pel_channelizer_taps, pel_channelizer_taps_per_branch, pel_cos, pel_delay, pel_exp, pel_fabs,
+    pel_floor, pel_gaussian, pel_gaussian_new, pel_halfband, pel_halfband_len, pel_halfband_new,
+    pel_hann_f32, pel_hann_q15, pel_kaiser_beta, pel_kaiser_f32, pel_kaiser_q15, pel_kaiserord,
+    pel_lowpass, pel_lowpass_new, pel_pow04, pel_preemphasis_coefs, pel_q14_from_f64,
+    pel_q15_from_f64, pel_q15_tap, pel_rrc, pel_rrc_len, pel_rrc_new, pel_sin, pel_spec_design,
+    pel_spec_lowpass, pel_spec_num_taps, pel_sqrt, pel_to_f32, pel_to_f32_sos, pel_to_q14,
+    pel_to_q15, pel_window_gain,
+};
+
+/// `carries`: nothing.
+pub const NOTHING: u32 = 0;
+/// `carries`: `smallest`, `largest` and `offered`.
+pub const RANGE: u32 = 1;
+/// `carries`: `expected` and `given`.
+pub const LENGTH: u32 = 2;
+/// `carries`: `expected` and `given`, and the same as a range.
+pub const CAP: u32 = 3;
+/// `carries`: `index`, and a range.
+pub const ELEMENT: u32 = 4;
+
+/// The code of Hann's window.
+pub const HANN: u64 = 0;
+/// The code of Hamming's window.
+pub const HAMMING: u64 = 1;
+/// The code of Blackman's window.
+pub const BLACKMAN: u64 = 2;
+/// The code of Kaiser's window.
+pub const KAISER: u64 = 3;
+
+/// The code of a low-pass section.
+pub const LOWPASS: u64 = 0;
+/// The code of a high-pass section.
+pub const HIGHPASS: u64 = 1;
+/// The code of a band-pass section.
+pub const BANDPASS: u64 = 2;
+/// The code of a notch.
+pub const NOTCH: u64 = 3;
+
+/// The code of a periodic window.
+pub const PERIODIC: u64 = 0;
+/// The code of a symmetric window.
+pub const SYMMETRIC: u64 = 1;
+
+/// What a designer answers: `pel_report`. A field that doesn't apply is 0.
+#[repr(C)]
+#[derive(Clone, Copy, Debug, Default, PartialEq)]
+pub struct Report {
+    /// 0 where the ticket is accepted, else the refusal's number.
+    pub number: u32,
+    /// Which of the next fields belong to the refusal: [`NOTHING`], [`RANGE`], [`LENGTH`], [`CAP`] or
+    /// [`ELEMENT`].
+    pub carries: u32,
+    /// The lower limit.
+    pub smallest: f64,
+    /// The upper limit.
+    pub largest: f64,
+    /// The value that was offered.
+    pub offered: f64,
+    /// The length expected, or the taps needed.
+    pub expected: u64,
+    /// The length given, or the taps allowed.
+    pub given: u64,
+    /// The index of the element.
+    pub index: u64,
+    /// Accepted: the number of taps, terms, samples or elements.
+    pub count: u64,
+    /// Accepted: a divisor, a factor, a beta, a sum, or a Q15 or Q14 number.
+    pub value: f64,
+}
+
+/// What a window does: `pel_gain_report`. A field that doesn't apply is 0.
+#[repr(C)]
+#[derive(Clone, Copy, Debug, Default, PartialEq)]
+pub struct GainReport {
+    /// 0, or 8 where the source isn't whole samples.
+    pub number: u32,
+    /// [`NOTHING`] or [`LENGTH`].
+    pub carries: u32,
+    /// The length expected, in bytes.
+    pub expected: u64,
+    /// The length given, in bytes.
+    pub given: u64,
+    /// The number of samples.
+    pub count: u64,
+    /// The mean of the samples.
+    pub gain: f64,
+    /// The noise-equivalent bandwidth in bins.
+    pub bandwidth: f64,
+}

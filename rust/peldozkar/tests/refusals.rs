@@ -1,0 +1,478 @@
+//! Every refusal by its number, with what it carries, and what it leaves of a buffer.
+
+use peldozkar::{
+    Carried, Error, Reason, Response, Spec, Symmetry, Window, biquad_coefs, blackman_harris,
+    butterworth_sos, channelizer_prototype, channelizer_taps, delay, gaussian, gaussian_new,
+    halfband, halfband_len, halfband_new, hann, kaiser, kaiserord, lowpass, lowpass_new,
+    preemphasis_coefs, q14_from_f64, q15_tap, rrc, rrc_len, rrc_new, to_f32, to_f32_sos, to_q14,
+    to_q15, window_gain,
+};
+
+const NAN: f64 = f64::NAN;
+const INFINITY: f64 = f64::INFINITY;
+/// The largest size that Q15 takes.
+const Q15_LIMIT: f64 = (1.0 - 1.0 / 32768.0) * 1.01;
+const Q14_LARGEST: f64 = 2.0 - 1.0 / 16384.0;
+
+const GOOD: Spec = Spec {
+    cutoff: 1000.0,
+    transition: 100.0,
+    attenuation: 60.0,
+};
+
+fn range(smallest: f64, largest: f64, offered: f64) -> Carried {
+    Carried::Range {
+        smallest,
+        largest,
+        offered,
+    }
+}
+
+fn length(expected: u64, given: u64) -> Carried {
+    Carried::Length { expected, given }
+}
+
+fn q15_element(index: u64, offered: f64) -> Carried {
+    Carried::Element {
+        index,
+        smallest: -Q15_LIMIT,
+        largest: Q15_LIMIT,
+        offered,
+    }
+}
+
+fn q14_element(index: u64, offered: f64) -> Carried {
+    Carried::Element {
+        index,
+        smallest: -2.0,
+        largest: Q14_LARGEST,
+        offered,
+    }
+}
+
+/// Holds an answer to a refusal's number, its reason and what it carries.
+#[track_caller]
+fn refused<T: std::fmt::Debug>(answer: Result<T, Error>, reason: Reason, carried: Carried) {
+    let error = answer.expect_err("it must be refused");
+    assert_eq!(error, Error { reason, carried });
+    assert_eq!(error.number(), reason.number());
+    let text = error.to_string();
+    assert!(
+        text.starts_with(&format!("refused with {}: ", reason.number())),
+        "{text}"
+    );
+}
+
+/// The same for a refusal that carries the number alone.
+#[track_caller]
+fn plain<T: std::fmt::Debug>(answer: Result<T, Error>, reason: Reason) {
+    refused(answer, reason, Carried::Nothing);
+}
+
+/// Numbers of which no filter consists, NaNs among them, to be found again by their bits.
+fn before<const N: usize>() -> [f64; N] {
+    std::array::from_fn(|i| {
+        if i % 3 == 1 {
+            f64::from_bits(0xFFF1_2345_6789_ABCD)
+        } else {
+            -1e9 - i as f64
+        }
+    })
+}
+
+#[track_caller]
+fn as_it_came(out: &[f64]) {
+    let came = before::<64>();
+    let bits = |x: &f64| x.to_bits();
+    assert!(out.iter().map(bits).eq(came[..out.len()].iter().map(bits)));
+}
+
+/// Lends numbers to a call that is refused, and holds them to what they were.
+#[track_caller]
+fn lent<const N: usize, T>(call: impl FnOnce(&mut [f64]) -> Result<T, Error>) -> Result<T, Error> {
+    let mut out = before::<N>();
+    let answer = call(&mut out);
+    as_it_came(&out);
+    answer
+}
+
+#[test]
+fn numbers_are_those_of_the_header() {
+    let all = [
+        Reason::Rate,
+        Reason::Frequency,
+        Reason::Transition,
+        Reason::Attenuation,
+        Reason::Shape,
+        Reason::Count,
+        Reason::Code,
+        Reason::Length,
+        Reason::Cap,
+        Reason::Divisor,
+        Reason::Element,
+    ];
+    assert!(all.map(Reason::number).into_iter().eq(1..=11));
+    assert_eq!(Reason::Unknown(12).number(), 12);
+}
+
+#[test]
+fn one_the_rate() {
+    for rate in [0.0, -0.0, -8000.0, NAN, INFINITY] {
+        plain(
+            lent::<8, _>(|out| lowpass(1000.0, rate, Window::Hann, out)),
+            Reason::Rate,
+        );
+        plain(
+            lowpass_new(1000.0, rate, Window::Kaiser(NAN), 0),
+            Reason::Rate,
+        );
+        plain(GOOD.num_taps(rate, 0), Reason::Rate);
+        plain(GOOD.lowpass(rate, 0), Reason::Rate);
+        plain(lent::<8, _>(|out| GOOD.design(rate, 0, out)), Reason::Rate);
+    }
+    refused(
+        preemphasis_coefs(50e-6, 39999.0),
+        Reason::Rate,
+        range(40000.0, INFINITY, 39999.0),
+    );
+}
+
+#[test]
+fn two_a_frequency() {
+    let carried = range(0.0, 4000.0, 4000.0);
+    refused(
+        lent::<8, _>(|out| lowpass(4000.0, 8000.0, Window::Hamming, out)),
+        Reason::Frequency,
+        carried,
+    );
+    refused(
+        lowpass_new(0.0, 8000.0, Window::Blackman, 31),
+        Reason::Frequency,
+        range(0.0, 4000.0, 0.0),
+    );
+    let late = Spec {
+        cutoff: 3951.0,
+        ..GOOD
+    };
+    refused(
+        late.num_taps(8000.0, 0),
+        Reason::Frequency,
+        range(0.0, 3950.0, 3951.0),
+    );
+    refused(
+        biquad_coefs(Response::Notch, 4000.0, 1.0, 8000.0),
+        Reason::Frequency,
+        carried,
+    );
+    let mut sections = [before::<5>(); 2];
+    refused(
+        butterworth_sos(Response::Highpass, 4, -1.0, 8000.0, &mut sections),
+        Reason::Frequency,
+        range(0.0, 4000.0, -1.0),
+    );
+    sections.iter().for_each(|section| as_it_came(section));
+    for (passband, stopband) in [(0.0, 1.0), (0.5, 0.5), (0.5, 1.6)] {
+        let answer = channelizer_taps(16, passband, stopband, 60.0);
+        assert_eq!(answer.unwrap_err().reason, Reason::Frequency);
+    }
+    // A NaN is told as it was offered.
+    let error = lent::<8, _>(|out| lowpass(NAN, 8000.0, Window::Hann, out)).unwrap_err();
+    assert_eq!(error.number(), 2);
+    assert!(matches!(error.carried, Carried::Range { offered, .. } if offered.is_nan()));
+    assert_ne!(error, error);
+}
+
+#[test]
+fn three_the_transition() {
+    plain(kaiserord(60.0, 0.0, 8000.0), Reason::Transition);
+    plain(kaiserord(60.0, NAN, 8000.0), Reason::Transition);
+    plain(halfband_len(100.0, 60.0, -8000.0), Reason::Transition);
+    refused(
+        kaiserord(60.0, 1e-6, 8000.0),
+        Reason::Transition,
+        range(0.0, 8000.0, 1e-6),
+    );
+    let flat = Spec {
+        transition: -100.0,
+        ..GOOD
+    };
+    refused(
+        lent::<3, _>(|out| flat.design(8000.0, 1000, out)),
+        Reason::Transition,
+        range(0.0, 4000.0, -100.0),
+    );
+}
+
+#[test]
+fn four_the_attenuation_or_beta() {
+    plain(kaiserord(7.9, 100.0, 8000.0), Reason::Attenuation);
+    plain(halfband_len(100.0, NAN, 8000.0), Reason::Attenuation);
+    for beta in [-1.0, NAN, INFINITY] {
+        plain(
+            lent::<8, _>(|out| lowpass(1000.0, 8000.0, Window::Kaiser(beta), out)),
+            Reason::Attenuation,
+        );
+        plain(lent::<7, _>(|out| halfband(beta, out)), Reason::Attenuation);
+        let mut samples = [7_i16; 4];
+        plain(
+            kaiser(beta, Symmetry::Periodic, &mut samples),
+            Reason::Attenuation,
+        );
+        assert_eq!(samples, [7; 4]);
+        plain(
+            kaiser(beta, Symmetry::Symmetric, &mut [0.0_f32; 0]),
+            Reason::Attenuation,
+        );
+    }
+    refused(
+        lent::<8, _>(|out| channelizer_prototype(16, 8, 0.5, 1.0, 121.0, out)),
+        Reason::Attenuation,
+        range(20.0, 120.0, 121.0),
+    );
+}
+
+#[test]
+fn five_a_shape() {
+    refused(
+        lent::<33, _>(|out| gaussian(0.1, 8, 4, out)),
+        Reason::Shape,
+        range(0.2, 1.0, 0.1),
+    );
+    refused(
+        lent::<33, _>(|out| rrc(1.5, 8, 4, out)),
+        Reason::Shape,
+        range(0.05, 1.0, 1.5),
+    );
+    refused(
+        biquad_coefs(Response::Bandpass, 1000.0, 0.0, 8000.0),
+        Reason::Shape,
+        range(0.0, INFINITY, 0.0),
+    );
+    refused(
+        preemphasis_coefs(0.002, 1.0),
+        Reason::Shape,
+        range(0.0, 0.001, 0.002),
+    );
+}
+
+#[test]
+fn six_a_count() {
+    plain(delay(0), Reason::Count);
+    for taps in [0, (1 << 24) + 1, u64::MAX] {
+        plain(
+            lowpass_new(1000.0, 8000.0, Window::Hann, taps),
+            Reason::Count,
+        );
+    }
+    plain(halfband_new(5.0, 5), Reason::Count);
+    plain(lent::<5, _>(|out| halfband(5.0, out)), Reason::Count);
+    refused(gaussian_new(0.5, 0, 9), Reason::Count, range(2.0, 8.0, 9.0));
+    refused(
+        gaussian_new(0.5, 1, 4),
+        Reason::Count,
+        range(2.0, f64::from((1 << 24) - 1).div_euclid(4.0), 1.0),
+    );
+    refused(
+        rrc_new(0.5, 1025, 3),
+        Reason::Count,
+        range(2.0, 1024.0, 1025.0),
+    );
+    refused(rrc_len(8, 33), Reason::Count, range(4.0, 32.0, 33.0));
+    let mut sections = [before::<5>(); 2];
+    plain(
+        butterworth_sos(Response::Lowpass, 3, 1000.0, 8000.0, &mut sections),
+        Reason::Count,
+    );
+    sections.iter().for_each(|section| as_it_came(section));
+    for (channels, branch) in [(12, 8), (512, 8), (16, 3), (16, 33)] {
+        let answer =
+            lent::<64, _>(|out| channelizer_prototype(channels, branch, 0.5, 1.0, 60.0, out));
+        assert_eq!(answer.unwrap_err().reason, Reason::Count);
+    }
+}
+
+#[test]
+fn seven_a_response_that_butterworth_has_not() {
+    for response in [Response::Bandpass, Response::Notch] {
+        let mut sections = [before::<5>(); 2];
+        plain(
+            butterworth_sos(response, 3, NAN, NAN, &mut sections),
+            Reason::Code,
+        );
+        sections.iter().for_each(|section| as_it_came(section));
+    }
+}
+
+#[test]
+fn eight_a_length() {
+    refused(
+        lent::<64, _>(|out| GOOD.design(8000.0, 1000, out)),
+        Reason::Length,
+        length(293, 64),
+    );
+    refused(
+        lent::<32, _>(|out| gaussian(0.5, 8, 4, out)),
+        Reason::Length,
+        length(33, 32),
+    );
+    refused(
+        lent::<64, _>(|out| rrc(0.5, 8, 8, out)),
+        Reason::Length,
+        length(65, 64),
+    );
+    refused(
+        lent::<64, _>(|out| channelizer_prototype(16, 8, 0.5, 1.0, 60.0, out)),
+        Reason::Length,
+        length(128, 64),
+    );
+    // Sections are told in numbers.
+    let mut sections = [before::<5>(); 3];
+    refused(
+        butterworth_sos(Response::Lowpass, 4, 1000.0, 8000.0, &mut sections),
+        Reason::Length,
+        length(10, 15),
+    );
+    sections.iter().for_each(|section| as_it_came(section));
+
+    let mut numbers = [7_i16; 2];
+    refused(
+        to_q15(&[NAN; 3], &mut numbers),
+        Reason::Length,
+        length(3, 2),
+    );
+    assert_eq!(numbers, [7; 2]);
+    let mut numbers = [[7_i16; 5]; 2];
+    refused(
+        to_q14(&[[NAN; 5]], &mut numbers),
+        Reason::Length,
+        length(5, 10),
+    );
+    assert_eq!(numbers, [[7; 5]; 2]);
+    let mut numbers = [7.0_f32; 3];
+    refused(to_f32(&[], &mut numbers), Reason::Length, length(0, 3));
+    assert_eq!(numbers, [7.0; 3]);
+    let mut numbers = [[7.0_f32; 5]];
+    refused(to_f32_sos(&[], &mut numbers), Reason::Length, length(0, 5));
+    assert_eq!(numbers, [[7.0; 5]]);
+}
+
+#[test]
+fn nine_a_cap() {
+    let carried = Carried::Cap {
+        needed: 293,
+        allowed: 292,
+        largest: 16_777_216.0,
+    };
+    refused(GOOD.num_taps(8000.0, 292), Reason::Cap, carried);
+    refused(GOOD.lowpass(8000.0, 292), Reason::Cap, carried);
+    refused(
+        lent::<64, _>(|out| GOOD.design(8000.0, 292, out)),
+        Reason::Cap,
+        carried,
+    );
+}
+
+#[test]
+fn ten_a_divisor() {
+    plain(
+        lent::<2, _>(|out| lowpass(0.25, 1.0, Window::Hann, out)),
+        Reason::Divisor,
+    );
+    plain(
+        lowpass_new(0.25, 1.0, Window::Kaiser(1e4), 10),
+        Reason::Divisor,
+    );
+    plain(lent::<7, _>(|out| halfband(1e4, out)), Reason::Divisor);
+}
+
+#[test]
+fn eleven_an_element_after_a_prefix() {
+    refused(q15_tap(1.01), Reason::Element, q15_element(0, 1.01));
+    refused(q14_from_f64(2.0), Reason::Element, q14_element(0, 2.0));
+
+    let mut numbers = [7_i16; 5];
+    refused(
+        to_q15(&[0.5, -1.0, -1.5, 0.25, 2.0], &mut numbers),
+        Reason::Element,
+        q15_element(2, -1.5),
+    );
+    assert_eq!(numbers, [16384, -32768, 7, 7, 7]);
+
+    let mut numbers = [[7_i16; 5]; 2];
+    let sections = [[1.0, -2.0, 0.5, 0.25, 0.0], [-1.0, INFINITY, NAN, 0.0, 0.0]];
+    refused(
+        to_q14(&sections, &mut numbers),
+        Reason::Element,
+        q14_element(6, INFINITY),
+    );
+    assert_eq!(
+        numbers,
+        [[16384, -32768, 8192, 4096, 0], [-16384, 7, 7, 7, 7]]
+    );
+
+    let mut numbers = [7_i16; 2];
+    let error = to_q15(&[0.0, NAN], &mut numbers).unwrap_err();
+    assert_eq!((error.number(), numbers), (11, [0, 7]));
+    assert!(
+        matches!(error.carried, Carried::Element { index: 1, offered, .. } if offered.is_nan())
+    );
+}
+
+#[test]
+fn empty_slices() {
+    plain(
+        lowpass(1000.0, 8000.0, Window::Hann, &mut []),
+        Reason::Count,
+    );
+    plain(halfband(5.0, &mut []), Reason::Count);
+    refused(
+        GOOD.design(8000.0, 1000, &mut []),
+        Reason::Length,
+        length(293, 0),
+    );
+    refused(gaussian(0.5, 8, 4, &mut []), Reason::Length, length(33, 0));
+    refused(
+        butterworth_sos(Response::Lowpass, 2, 1000.0, 8000.0, &mut []),
+        Reason::Length,
+        length(5, 0),
+    );
+    assert_eq!(to_q15(&[], &mut []), Ok(()));
+    assert_eq!(to_q14(&[], &mut []), Ok(()));
+    assert_eq!(to_f32(&[], &mut []), Ok(()));
+    assert_eq!(to_f32_sos(&[], &mut []), Ok(()));
+    hann::<f32>(Symmetry::Periodic, &mut []);
+    blackman_harris::<i16>(Symmetry::Symmetric, &mut []);
+    assert_eq!(kaiser::<f32>(8.0, Symmetry::Periodic, &mut []), Ok(()));
+    let gain = window_gain(&[]);
+    assert_eq!((gain.coherent, gain.bandwidth), (0.0, 0.0));
+}
+
+#[test]
+fn in_words() {
+    let told = |answer: Result<u64, Error>| answer.unwrap_err().to_string();
+    assert_eq!(
+        told(delay(0)),
+        "refused with 6: a count of taps, orders, symbols, samples, channels or branches can't be taken"
+    );
+    assert_eq!(
+        told(rrc_len(8, 33)),
+        "refused with 6: a count of taps, orders, symbols, samples, channels or branches can't be taken \
+         (smallest 4.0, largest 32.0, offered 33.0)"
+    );
+    assert_eq!(
+        gaussian(0.5, 8, 4, &mut []).unwrap_err().to_string(),
+        "refused with 8: the buffer's length is wrong (expected 33, given 0)"
+    );
+    assert_eq!(
+        told(GOOD.num_taps(8000.0, 1)),
+        "refused with 9: more taps are needed than are allowed (needed 293, allowed 1)"
+    );
+    assert_eq!(
+        q14_from_f64(-3.0).unwrap_err().to_string(),
+        "refused with 11: an element doesn't fit the format \
+         (index 0, smallest -2.0, largest 1.99993896484375, offered -3.0)"
+    );
+    // It is an error like any other.
+    let boxed: Box<dyn std::error::Error + Send + Sync> = Box::new(delay(0).unwrap_err());
+    assert!(boxed.source().is_none());
+}
