@@ -6,7 +6,7 @@ CHECKED = -g -O1 -fsanitize=address,undefined -fno-sanitize-recover=all
 LIB = target/lib/libpeldozkar.a
 # The crates with exports: each makes one object, and the library holds them all.
 EXPORTS = border border_formats border_sections border_windows
-DESIGN = tools/design.c tools/kinds.c tools/forms.c tools/words.c
+DESIGN = tools/design.c tools/kinds.c tools/forms.c tools/words.c tools/help.c tools/files.c tools/picture.c tools/plot.c tools/response.c
 # Where `make install` puts things, below DESTDIR if that is said, and the version that pkg-config tells.
 PREFIX ?= /usr/local
 DESTDIR ?=
@@ -47,9 +47,9 @@ uninstall:
 
 target/tools/design target/tools/functions: target/tools/%: tools/%.c include/peldozkar.h $(LIB)
 	mkdir -p target/tools
-	$(CC) $(CFLAGS) $(STRICT) $(filter %.c,$^) -o $@ $(LIB)
+	$(CC) $(CFLAGS) $(STRICT) $(filter %.c,$^) -o $@ $(LIB) -lm
 
-target/tools/design: $(DESIGN) tools/kinds.h tools/forms.h tools/words.h
+target/tools/design: $(DESIGN) tools/kinds.h tools/forms.h tools/words.h tools/help.h tools/files.h tools/picture.h tools/plot.h tools/response.h
 
 # The exports called from C, under the address and undefined-behaviour sanitizers.
 c: $(LIB)
@@ -59,8 +59,8 @@ c: $(LIB)
 # The command line of `make run`, and once more with a tap that Q15 can't take.
 tool: target/tools/design
 	mkdir -p target/tests
-	$(CC) $(STRICT) $(CHECKED) -Dpel_gaussian=wide_gaussian $(DESIGN) tests/c/wide.c -o target/tests/wide $(LIB)
-	tests/tool target/tools/design target/tests/wide
+	$(CC) $(STRICT) $(CHECKED) -Dpel_gaussian=wide_gaussian $(DESIGN) tests/c/wide.c -o target/tests/wide $(LIB) -lm
+	CC="$(CC)" tests/tool target/tools/design target/tests/wide
 
 # The programs of examples/c against an installed tree, and installing itself.
 examples: $(LIB)

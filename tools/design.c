@@ -1,12 +1,15 @@
-/* Designs a filter, a section or a window from numbers on the command line, through the C header, and
- * prints its coefficients, in the form that is asked for, one a line; a refusal is said in words on standard
- * error, with its number as the exit status. */
+/* Designs a filter, a section or a window from numbers on the command line, through the C header, writes its
+ * coefficients in the form that is asked for and where, and draws them; a refusal is said in words on standard
+ * error, with its number as the exit status, and leaves no file. */
 #include <inttypes.h>
 #include <stdarg.h>
+#include <stdbool.h>
 #include <stdio.h>
 #include <stdlib.h>
 #include <string.h>
 
+#include "files.h"
+#include "help.h"
 #include "kinds.h"
 
 /* Exit statuses beside the refusals' numbers: the words were wrong, the machine failed. */
@@ -25,16 +28,37 @@ static void say_forms(FILE *to, unsigned set)
     fputs("]\n", to);
 }
 
-/* The lines of one kind, or of all where the name is null. */
+/* The kinds, one a line. */
+static void list_kinds(FILE *to)
+{
+    fputs("usage: design KIND OPTIONS\n       design KIND --help\n\n", to);
+    for (size_t k = 0; k < KINDS; k++)
+        if (k == 0 || strcmp(kinds[k].name, kinds[k - 1].name) != 0)
+            fprintf(to, "  %-17s %s\n", kinds[k].name, help_for(kinds[k].name)->summary);
+}
+
+/* The lines of one kind, or the list of all where the name is null. */
 static void usage(FILE *to, const char *name)
 {
     const char *lead = "usage:";
+    if (name == NULL) {
+        list_kinds(to);
+        return;
+    }
     for (size_t k = 0; k < KINDS; k++)
-        if (name == NULL || strcmp(name, kinds[k].name) == 0) {
+        if (strcmp(name, kinds[k].name) == 0) {
             fprintf(to, "%-6s design %s %s", lead, kinds[k].name, kinds[k].usage);
             say_forms(to, form_options(kinds[k].forms));
             lead = "";
         }
+    fputs("       and with [--form text|c|raw] [--name NAME] [--out FILE] [--plot FILE]\n", to);
+}
+
+static void help(FILE *to, const char *name)
+{
+    const struct help *h = help_for(name);
+    usage(to, name);
+    fprintf(to, "\n%s: %s\n\n%s%s\nexample:\n  design %s\n", name, h->summary, h->options, every_help, h->example);
 }
 
 /* What is wrong with the words, as printf has it, and the usage of the kind. */
@@ -106,17 +130,77 @@ static int explain(const struct kind *k, const struct ticket *t, pel_report r)
 
 /* ---- Judge, allocate, design, print ----------------------------------------------------------- */
 
-/* What could not be written is no success. */
-static int written(void)
+/* What the numbers were made from, as the words that make them again. */
+static void say_origin(FILE *to, const struct kind *k, const struct ticket *t)
 {
-    if (fflush(stdout) != 0 || ferror(stdout)) {
-        perror("design");
-        return FAILED;
-    }
-    return 0;
+    fprintf(to, "/* design %s", k->name);
+    say_options(to, t, ~(unsigned)EVERY, " ", 0);
+    fputs(" */\n", to);
 }
 
-/* Fills `room`, and what is converted behind it; nothing is printed before all of it is there. */
+static void print(FILE *to, const struct kind *k, const struct ticket *t, const struct form *f, const uint8_t *bytes,
+                  size_t n)
+{
+    switch (t->form) {
+    case AS_C:
+        say_origin(to, k, t);
+        print_c(to, f, bytes, n, t->array);
+        break;
+    case AS_RAW:
+        fwrite(bytes, f->number->bytes, n, to);
+        break;
+    default:
+        print_text(to, f, bytes, n);
+    }
+}
+
+/* The picture as a file that has yet to be kept; 0, or the exit status. */
+static int plot(struct file *to, const struct kind *k, const struct ticket *t, const struct form *f,
+                const uint8_t *bytes, size_t n)
+{
+    double *numbers = malloc(n * sizeof *numbers + 1);
+    if (numbers == NULL) {
+        fprintf(stderr, "design: no memory for the picture of %zu %s\n", n, k->numbers);
+        return FAILED;
+    }
+    worth(f, bytes, n, numbers);
+    struct subject s = {t, k->show, k->parts, k->needs | k->may, f->number->title, numbers, n};
+    if (!open_file(to, t->plot)) {
+        free(numbers);
+        return FAILED;
+    }
+    const char *wrong = draw_subject(to->to, &s);
+    free(numbers);
+    if (wrong != NULL) {
+        fprintf(stderr, "design: can't draw %s: %s\n", t->plot, wrong);
+        drop_file(to);
+        return USAGE;
+    }
+    return finish_file(to) ? 0 : FAILED;
+}
+
+/* Both files are written before one is kept, so that a failure leaves neither. */
+static int put_out(const struct kind *k, const struct ticket *t, const struct form *f, const uint8_t *bytes, size_t n)
+{
+    struct file picture = {0}, numbers;
+    if ((t->given & PLOT) != 0) {
+        int status = plot(&picture, k, t, f, bytes, n);
+        if (status != 0)
+            return status;
+    }
+    bool good = open_file(&numbers, t->out);
+    if (good) {
+        print(numbers.to, k, t, f, bytes, n);
+        good = finish_file(&numbers) && keep_file(&numbers);
+    }
+    if (!good) {
+        drop_file(&picture);
+        return FAILED;
+    }
+    return keep_file(&picture) ? 0 : FAILED;
+}
+
+/* Fills `room`, and what is converted behind it; nothing is written before all of it is there. */
 static int fill_and_print(const struct kind *k, const struct ticket *t, const struct form *f, size_t n, uint8_t *room)
 {
     uint8_t *printed = room;
@@ -127,8 +211,7 @@ static int fill_and_print(const struct kind *k, const struct ticket *t, const st
     }
     if (r.number != 0)
         return explain(k, t, r);
-    f->print(printed, n);
-    return written();
+    return put_out(k, t, f, printed, n);
 }
 
 /* Room for so many numbers in a form, and never null for none of them; null where there isn't so much. */
@@ -144,6 +227,10 @@ static int design(const struct kind *k, struct ticket *t)
     pel_report r = k->judge(t);
     if (r.number != 0)
         return explain(k, t, r);
+    if (r.count == 0 && t->form == AS_C) {
+        fprintf(stderr, "design: a C array needs one element or more, and there are no %s\n", k->numbers);
+        return USAGE;
+    }
     const struct form *f = form_for(k->forms, t->given);
     uint8_t *room = room_for(r.count, f);
     if (room == NULL) {
@@ -159,7 +246,7 @@ static int design(const struct kind *k, struct ticket *t)
 
 static unsigned options_in(const struct kind *k)
 {
-    return k->needs | k->may | form_options(k->forms);
+    return k->needs | k->may | form_options(k->forms) | EVERY;
 }
 
 /* The options of every row of a name; 0 for an unknown one. */
@@ -181,35 +268,67 @@ static const struct kind *row_for(const char *name, unsigned given)
     return NULL;
 }
 
+/* What could not be said is no success. */
+static int said(void)
+{
+    if (fflush(stdout) == 0)
+        return 0;
+    perror("design");
+    return FAILED;
+}
+
+static bool asks_for_help(int n, char **word)
+{
+    for (int i = 0; i < n; i++)
+        if (strcmp(word[i], "--help") == 0)
+            return true;
+    return false;
+}
+
+/* What is wrong with options that are each good: 0, or the status after saying it. */
+static int judge_together(const struct kind *k, const struct ticket *t)
+{
+    unsigned forms = t->given & form_options(k->forms);
+    if (option_of(forms, 1) != NULL)
+        return complain(k->name, "%s and %s exclude each other", option_of(forms, 0), option_of(forms, 1));
+    if ((t->given & GAIN) != 0 && t->form != AS_TEXT)
+        return complain(k->name, "--gain is text, and goes with no other --form");
+    if ((t->given & ARRAY) != 0 && t->form != AS_C)
+        return complain(k->name, "--name goes with --form c only");
+    if ((t->given & OUT) != 0 && (t->given & PLOT) != 0 && strcmp(t->out, t->plot) == 0)
+        return complain(k->name, "--out and --plot name the same file");
+    /* Kaiser's window is the only one with a shape to give. */
+    unsigned needs = k->needs | (t->window == PEL_KAISER ? BETA : 0);
+    const char *missing = option_of(needs & ~t->given, 0);
+    return missing != NULL ? complain(k->name, "missing: %s", missing) : 0;
+}
+
 int main(int argc, char **argv)
 {
     if (argc < 2) {
-        usage(stderr, NULL);
+        list_kinds(stderr);
         return USAGE;
     }
     if (strcmp(argv[1], "--help") == 0) {
-        usage(stdout, NULL);
-        return 0;
+        list_kinds(stdout);
+        return said();
     }
     const char *name = argv[1];
     unsigned allowed = options_of(name);
     if (allowed == 0)
         return complain(NULL, "unknown kind %s", name);
+    if (asks_for_help(argc - 2, argv + 2)) {
+        help(stdout, name);
+        return said();
+    }
 
-    struct ticket t = {.window = PEL_HAMMING, .max_taps = 1 << 24, .symmetry = PEL_PERIODIC};
+    struct ticket t = {.window = PEL_HAMMING, .max_taps = 1 << 24, .symmetry = PEL_PERIODIC, .array = "taps"};
     struct complaint wrong = take_words(argc - 2, argv + 2, allowed, &t);
     if (wrong.what != NULL)
         return complain(name, "%s %s", wrong.what, wrong.word);
     const struct kind *k = row_for(name, t.given);
     if (k == NULL)
         return complain(name, "the options belong to two ways of asking for a %s", name);
-    unsigned forms = t.given & form_options(k->forms);
-    if (option_of(forms, 1) != NULL)
-        return complain(name, "%s and %s exclude each other", option_of(forms, 0), option_of(forms, 1));
-    /* Kaiser's window is the only one with a shape to give. */
-    unsigned needs = k->needs | (t.window == PEL_KAISER ? BETA : 0);
-    const char *missing = option_of(needs & ~t.given, 0);
-    if (missing != NULL)
-        return complain(name, "missing: %s", missing);
-    return design(k, &t);
+    int status = judge_together(k, &t);
+    return status != 0 ? status : design(k, &t);
 }

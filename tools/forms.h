@@ -1,4 +1,5 @@
-/* The forms that numbers are printed in: how wide they are, what converts them, and how they are said. */
+/* The forms that numbers come in: how wide they are, what converts them, how they are said, and what they are
+ * worth. */
 #ifndef FORMS_H
 #define FORMS_H
 
@@ -8,11 +9,25 @@
 
 #include "peldozkar.h"
 
+/* A format of numbers in bytes. */
+struct number {
+    size_t bytes;
+    const char *type;  /* in C, */
+    int to_a_line;     /* so many of which stand on a line there */
+    const char *title; /* what a picture calls it; null for the numbers without an option */
+    double one;        /* the number that stands for 1 */
+    double (*read)(const uint8_t *bytes);
+    void (*say)(FILE *to, double x);      /* as text, */
+    void (*say_in_c)(FILE *to, double x); /* and as a constant */
+};
+
 struct form {
     unsigned option;          /* what asks for it; 0 for the form without an option */
     size_t filled, converted; /* bytes of a number as a kind fills it in, and as converted; 0 where it isn't */
     pel_report (*convert)(const uint8_t *source, size_t source_bytes, uint8_t *out, size_t bytes);
-    void (*print)(const uint8_t *bytes, size_t n);
+    const struct number *number;
+    /* What is said instead of the numbers; null where they are said. */
+    void (*instead)(FILE *to, const uint8_t *bytes, size_t n);
 };
 
 /* The forms of a kind of number, the one without an option first, up to one that is 0 bytes wide. */
@@ -23,6 +38,15 @@ unsigned form_options(const struct form *forms);
 
 /* The form that the options given ask for. */
 const struct form *form_for(const struct form *forms, unsigned given);
+
+/* One number a line, or what the form says instead. */
+void print_text(FILE *to, const struct form *f, const uint8_t *bytes, size_t n);
+
+/* The numbers, one at least, as a constant array of C that reads back to the same bits. */
+void print_c(FILE *to, const struct form *f, const uint8_t *bytes, size_t n, const char *name);
+
+/* What the numbers are worth, in room for n of them. */
+void worth(const struct form *f, const uint8_t *bytes, size_t n, double *out);
 
 /* With the fewest digits that still name the number. */
 void say_number(FILE *to, double x);

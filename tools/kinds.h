@@ -7,6 +7,7 @@
 
 #include "forms.h"
 #include "peldozkar.h"
+#include "picture.h"
 #include "words.h"
 
 /* One way to ask for coefficients. Two rows of a name are two sets of options for one kind. */
@@ -14,7 +15,9 @@ struct kind {
     const char *name, *usage;
     unsigned needs, may;      /* options that must stand, and those that may besides */
     const char *numbers;      /* what the numbers are called, */
-    const struct form *forms; /* and the forms that they can be printed in */
+    const struct form *forms; /* the forms that they can be printed in, */
+    enum parts parts;         /* what they are, and what a picture shows beside them */
+    show_kind *show;
     /* The ticket's judgement, with how many numbers there are as the count. What the options leave open,
      * such as a length, is put into the ticket. */
     pel_report (*judge)(struct ticket *t);

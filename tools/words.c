@@ -10,7 +10,9 @@
 #include <stdlib.h>
 #include <string.h>
 
-enum reading { NUMBER, COUNT, NAME, ALONE };
+#include "forms.h"
+
+enum reading { NUMBER, COUNT, NAME, IDENTIFIER, PATH, ALONE };
 
 /* What an option can be called, in the order of the header's codes, up to a null. */
 struct names {
@@ -21,6 +23,7 @@ struct names {
 static const struct names windows = {"unknown window:", {"hann", "hamming", "blackman", "kaiser"}};
 static const struct names responses = {"unknown response:", {"lowpass", "highpass", "bandpass", "notch"}};
 static const struct names symmetries = {"unknown symmetry:", {"periodic", "symmetric"}};
+static const struct names forms = {"unknown form:", {"text", "c", "raw"}};
 
 static const struct option {
     const char *name;
@@ -55,6 +58,10 @@ static const struct option {
     {"--q14", Q14, ALONE, 0, NULL},
     {"--f32", F32, ALONE, 0, NULL},
     {"--gain", GAIN, ALONE, 0, NULL},
+    {"--form", FORM, NAME, offsetof(struct ticket, form), &forms},
+    {"--name", ARRAY, IDENTIFIER, offsetof(struct ticket, array), NULL},
+    {"--out", OUT, PATH, offsetof(struct ticket, out), NULL},
+    {"--plot", PLOT, PATH, offsetof(struct ticket, plot), NULL},
 };
 
 enum { OPTIONS = sizeof options / sizeof options[0] };
@@ -92,6 +99,25 @@ static bool read_name(const char *word, const struct names *names, uint64_t *cod
     return false;
 }
 
+/* What C11 keeps for itself. */
+static const char *const keywords[] = {
+    "auto",       "break",     "case",           "char",         "const",    "continue", "default",  "do",
+    "double",     "else",      "enum",           "extern",       "float",    "for",      "goto",     "if",
+    "inline",     "int",       "long",           "register",     "restrict", "return",   "short",    "signed",
+    "sizeof",     "static",    "struct",         "switch",       "typedef",  "union",    "unsigned", "void",
+    "volatile",   "while",     "_Alignas",       "_Alignof",     "_Atomic",  "_Bool",    "_Complex", "_Generic",
+    "_Imaginary", "_Noreturn", "_Static_assert", "_Thread_local"};
+
+/* The letters of ASCII and no others, whatever the locale. */
+static bool is_identifier(const char *word)
+{
+    static const char letters[] = "0123456789_abcdefghijklmnopqrstuvwxyzABCDEFGHIJKLMNOPQRSTUVWXYZ";
+    for (size_t k = 0; k < sizeof keywords / sizeof keywords[0]; k++)
+        if (strcmp(word, keywords[k]) == 0)
+            return false;
+    return *word != '\0' && strspn(word, letters) == strlen(word) && strspn(word, "0123456789") == 0;
+}
+
 /* One value into its place: null, or what the word isn't. */
 static const char *read_value(const struct option *o, const char *word, struct ticket *t)
 {
@@ -103,6 +129,12 @@ static const char *read_value(const struct option *o, const char *word, struct t
         return read_count(word, place) ? NULL : "not a count from 0 to 2^64 - 1:";
     case NAME:
         return read_name(word, o->names, place) ? NULL : o->names->unknown;
+    case IDENTIFIER:
+        *(const char **)place = word;
+        return is_identifier(word) ? NULL : "not a C identifier:";
+    case PATH:
+        *(const char **)place = word;
+        return *word != '\0' ? NULL : "not a file's name:";
     case ALONE:
         break;
     }
@@ -136,6 +168,30 @@ struct complaint take_words(int n, char **word, unsigned allowed, struct ticket 
             return (struct complaint){what, word[i]};
     }
     return (struct complaint){NULL, NULL};
+}
+
+static void say_value(FILE *to, const struct ticket *t, const struct option *o)
+{
+    const void *place = (const char *)t + o->place;
+    if (o->reading != ALONE)
+        fputc(' ', to);
+    if (o->reading == NUMBER)
+        say_number(to, *(const double *)place);
+    if (o->reading == COUNT)
+        fprintf(to, "%" PRIu64, *(const uint64_t *)place);
+    if (o->reading == NAME)
+        fputs(o->names->name[*(const uint64_t *)place], to);
+    if (o->reading == IDENTIFIER || o->reading == PATH)
+        fputs(*(const char *const *)place, to);
+}
+
+void say_options(FILE *to, const struct ticket *t, unsigned set, const char *lead, int skip)
+{
+    for (size_t k = 0; k < OPTIONS; k++)
+        if ((options[k].bit & set & t->given) != 0) {
+            fprintf(to, "%s%s", lead, options[k].name + skip);
+            say_value(to, t, &options[k]);
+        }
 }
 
 const char *option_of(unsigned set, int i)

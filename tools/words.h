@@ -3,6 +3,7 @@
 #define WORDS_H
 
 #include <stdint.h>
+#include <stdio.h>
 
 /* A set of options is a sum of these. */
 enum {
@@ -32,13 +33,25 @@ enum {
     Q15 = 1 << 22,
     Q14 = 1 << 23,
     F32 = 1 << 24,
-    GAIN = 1 << 25
+    GAIN = 1 << 25,
+    /* How, and where to. */
+    FORM = 1 << 26,
+    ARRAY = 1 << 27,
+    OUT = 1 << 28,
+    PLOT = 1 << 29
 };
+
+/* The options that every kind has. */
+enum { EVERY = FORM | ARRAY | OUT | PLOT };
+
+/* The codes of --form. */
+enum { AS_TEXT = 0, AS_C = 1, AS_RAW = 2 };
 
 /* What the options said; a value counts where its bit is in `given`, and is the caller's default elsewhere. */
 struct ticket {
     double cutoff, rate, transition, attenuation, beta, bt, passband, stopband, rolloff, centre, q, tau;
-    uint64_t taps, max_taps, window, samples, span, channels, branch, response, order, symmetry;
+    uint64_t taps, max_taps, window, samples, span, channels, branch, response, order, symmetry, form;
+    const char *array, *out, *plot;
     unsigned given;
 };
 
@@ -49,6 +62,10 @@ struct complaint {
 
 /* Takes the options apart; those outside `allowed` are unknown words. */
 struct complaint take_words(int n, char **word, unsigned allowed, struct ticket *t);
+
+/* The options of a set that were given, in one order whatever that of the words: each after `lead`, without the
+ * first `skip` letters of its name, and its value behind a blank, with digits that name the very number. */
+void say_options(FILE *to, const struct ticket *t, unsigned set, const char *lead, int skip);
 
 /* The name of option i of a set, counted from 0; null where the set has no more. */
 const char *option_of(unsigned set, int i);
