@@ -13,7 +13,7 @@ DESTDIR ?=
 VERSION = 0.1.0
 SOURCES = $(shell find crates -name '*.rt' -o -name '*.antt') crates.txt
 
-.PHONY: run functions test lib install uninstall c tool examples compare bench list distance clean rust scipy
+.PHONY: run functions test lib install uninstall c tool examples compare day bench list distance clean rust scipy
 .SECONDARY:
 
 # What `make run` designs; say another one as in: make run ARGS="spec --cutoff 1000 --transition 200 --attenuation 60 --rate 8000"
@@ -74,9 +74,14 @@ rust: $(LIB)
 scipy: $(LIB)
 	CC="$(CC)" tests/scipy/run $(LIB)
 
-# Both sides on the same inputs, by bits; skipped in one line where the Rust files are not at hand.
+# Both sides on the same inputs, by bits, and whether the long run can be taken up again; each skipped in one line where the Rust files are not at hand.
 compare: $(LIB)
 	tests/differential/run compare
+	tests/differential/run resumes
+
+# The long run, 20,000,000 hostile tickets in about two minutes: left at any time, it goes on from its last whole block.
+day: $(LIB)
+	tests/differential/run day
 
 # Both sides timed in one run.
 bench: $(LIB)

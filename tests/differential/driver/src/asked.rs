@@ -44,6 +44,8 @@ pub struct Channels {
 pub struct Source {
     pub elements: Vec<f64>,
     pub rest: u64,
+    /// Moves the place at which it is lent, by its alignment and its guards; no part of the question.
+    pub shift: u64,
 }
 
 /// What a root-raised-cosine pulse is asked for.
@@ -103,6 +105,8 @@ pub struct Window {
 pub struct Samples {
     pub elements: Vec<f32>,
     pub rest: u64,
+    /// As that of a source.
+    pub shift: u64,
 }
 
 impl Band {

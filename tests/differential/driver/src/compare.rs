@@ -12,33 +12,52 @@ const SHOWN: u64 = 8;
 const FAULT_COUNT: u64 = 400_000;
 
 /// What the comparison of one function has counted so far.
-#[derive(Default)]
-struct Tally {
-    compared: u64,
-    differ: u64,
-    nan: u64,
+#[derive(Clone, Copy, Default)]
+pub struct Tally {
+    pub compared: u64,
+    pub differ: u64,
+    pub nan: u64,
 }
 
 impl Tally {
-    fn compare(&mut self, function: &Function, x: f64, shown: u64) {
+    /// Compares an input; the Rust's answer and the port's, if they differ.
+    pub fn judge(&mut self, function: &Function, x: f64) -> Option<[f64; 2]> {
         let rust = (function.rust)(x);
         let port = (function.port)(x);
         self.compared += 1;
         self.nan += u64::from(rust.is_nan());
         if same(rust, port) {
-            return;
+            return None;
         }
         self.differ += 1;
-        if self.differ <= shown {
-            println!(
-                "  {}({:016X} = {x:?}): Rust {:016X} = {rust:?}, port {:016X} = {port:?}",
-                function.name,
-                x.to_bits(),
-                rust.to_bits(),
-                port.to_bits(),
-            );
+        Some([rust, port])
+    }
+
+    fn compare(&mut self, function: &Function, x: f64, shown: u64) {
+        if let Some(answers) = self.judge(function, x)
+            && self.differ <= shown
+        {
+            println!("{}", told(function, x, answers));
         }
     }
+
+    pub fn print(&self, name: &str) {
+        println!(
+            "{name}: {} compared, {} differ ({} answers NaN)",
+            self.compared, self.differ, self.nan,
+        );
+    }
+}
+
+/// An input and both answers, in words.
+pub fn told(function: &Function, x: f64, [rust, port]: [f64; 2]) -> String {
+    format!(
+        "  {}({:016X} = {x:?}): Rust {:016X} = {rust:?}, port {:016X} = {port:?}",
+        function.name,
+        x.to_bits(),
+        rust.to_bits(),
+        port.to_bits(),
+    )
 }
 
 /// Compares one function on at least `count` inputs, showing the first that differ.
@@ -81,10 +100,7 @@ pub fn run(count: u64, seed: u64) -> bool {
     let mut equal = true;
     for function in &FUNCTIONS {
         let tally = compare(function, count, seed, SHOWN);
-        println!(
-            "{}: {} compared, {} differ ({} answers NaN)",
-            function.name, tally.compared, tally.differ, tally.nan,
-        );
+        tally.print(function.name);
         equal &= tally.differ == 0;
     }
     equal

@@ -15,7 +15,11 @@ pub fn group(kind: Kind) -> u64 {
 
 /// A conversion of a kind.
 pub fn ticket(kind: Kind, elements: Vec<f64>, rest: u64, bytes: u64) -> Ticket {
-    let source = Source { elements, rest };
+    let source = Source {
+        elements,
+        rest,
+        shift: 0,
+    };
     match kind {
         Kind::ToQ14 => Ticket::ToQ14 { source, bytes },
         Kind::ToF32 => Ticket::ToF32 { source, bytes },

@@ -79,7 +79,7 @@ pub fn converted(source: &Source, bytes: u64) -> Answer {
 /// between guards.
 pub fn port(source: &Source, buffer: &mut [u8], convert: fn(&[u8], &mut [u8]) -> Report) -> Report {
     let seed = source.elements.len() as u64 + source.length() + 3 * buffer.len() as u64;
-    let mut lent = Lent::new(source.length(), seed);
+    let mut lent = Lent::new(source.length(), seed.wrapping_add(source.shift));
     let bytes = source.elements.iter().map(|x| x.to_le_bytes());
     for (place, element) in lent.part().chunks_exact_mut(8).zip(bytes) {
         place.copy_from_slice(&element);

@@ -25,7 +25,11 @@ const ODD: [f32; 10] = [
 
 fn gain(elements: Vec<f32>, rest: u64) -> Ticket {
     Ticket::WindowGain {
-        samples: Samples { elements, rest },
+        samples: Samples {
+            elements,
+            rest,
+            shift: 0,
+        },
     }
 }
 

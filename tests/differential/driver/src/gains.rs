@@ -59,10 +59,8 @@ pub fn rust(samples: &Samples) -> Report {
 
 /// The port's figures; its source is lent, at any alignment and between guards.
 pub fn port(samples: &Samples) -> Report {
-    let mut lent = Lent::new(
-        samples.length(),
-        samples.length() ^ samples.elements.len() as u64,
-    );
+    let seed = samples.length() ^ samples.elements.len() as u64;
+    let mut lent = Lent::new(samples.length(), seed.wrapping_add(samples.shift));
     let bytes = samples.elements.iter().map(|x| x.to_le_bytes());
     for (place, element) in lent.part().chunks_exact_mut(4).zip(bytes) {
         place.copy_from_slice(&element);

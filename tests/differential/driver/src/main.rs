@@ -1,4 +1,4 @@
-//! The program that compares the port with the Rust: `compare`, `list`, `bench`.
+//! The program that compares the port with the Rust: `compare`, `day`, `list`, `bench`.
 
 mod asked;
 mod bench;
@@ -10,6 +10,8 @@ mod compare;
 mod conversion_bench;
 mod conversion_inputs;
 mod conversions;
+mod day;
+mod day_state;
 mod design_bench;
 mod designers;
 mod draw;
@@ -27,6 +29,7 @@ mod gaussian_faults;
 mod gaussian_inputs;
 mod halfband_faults;
 mod halfband_inputs;
+mod hostile;
 mod inputs;
 mod kaiser_faults;
 mod kinds;
@@ -64,9 +67,11 @@ mod window_inputs;
 mod window_kinds;
 mod windows;
 
+use std::path::Path;
 use std::process::ExitCode;
 
 const USAGE: &str = "usage: driver compare [--count N] [--tickets N] [--seed S]
+     | driver day [--tickets N] [--seed S] [--state FILE]
      | driver list [--count N] [--tickets N]
      | driver bench";
 
@@ -109,6 +114,22 @@ fn run(words: &[String]) -> Option<bool> {
             let functions = compare::run(count, seed);
             let designers = ticket_compare::run(tickets, seed);
             Some(ready && functions && designers)
+        }
+        "day"
+            if known(
+                rest,
+                &["--tickets", "--seed", "--state", "--stop-after", "--plant"],
+            ) =>
+        {
+            let asked = day::Asked {
+                tickets: number(rest, "--tickets", 20_000_000)?,
+                seed: number(rest, "--seed", 20_000_001)?,
+                stop_after: number(rest, "--stop-after", u64::MAX)?,
+                planted: number(rest, "--plant", 0)?,
+            };
+            let place = rest.iter().position(|word| word == "--state");
+            let state = place.map_or("target/differential/day.state", |place| &rest[place + 1]);
+            Some(day::run(&asked, Path::new(state)))
         }
         "list" if known(rest, &["--count", "--tickets"]) => {
             list::run(number(rest, "--count", 150)? as usize);

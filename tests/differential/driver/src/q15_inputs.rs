@@ -70,7 +70,11 @@ fn designed(taps: usize, fill: impl FnOnce(&mut [f64]) -> sdrk_blocks::Result<()
 
 fn to_q15(elements: Vec<f64>, rest: u64, bytes: u64) -> Ticket {
     Ticket::ToQ15 {
-        source: Source { elements, rest },
+        source: Source {
+            elements,
+            rest,
+            shift: 0,
+        },
         bytes,
     }
 }

@@ -48,6 +48,7 @@ pub fn run() -> bool {
     let source = Source {
         elements: vec![1.0, -1.0, 1.01],
         rest: 0,
+        shift: 0,
     };
     let converted = rust(&Ticket::ToQ15 { source, bytes: 6 });
     let rrc = |samples, span| rust(&Ticket::RrcLen { samples, span }).report;

@@ -289,7 +289,7 @@ impl Draw<'_> {
 }
 
 /// The spec, but refused for its cap where the design would take too long.
-fn bounded(spec: Spec) -> Spec {
+pub fn bounded(spec: Spec) -> Spec {
     let count = needed(&spec);
     if count > RANDOM_TAPS && count <= CAP && spec.max_taps >= count {
         let max_taps = count - 1;

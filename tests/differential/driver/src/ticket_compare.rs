@@ -15,7 +15,7 @@ use crate::tickets::{Kind, Ticket};
 use crate::totals::Totals;
 
 /// How many differing tickets are shown for each kind.
-const SHOWN: u64 = 8;
+pub const SHOWN: u64 = 8;
 
 /// How many random tickets a planted fault gets at most.
 const FAULT_COUNT: u64 = 40_000;
@@ -52,32 +52,66 @@ fn port_q15(tap: f64) -> Option<i64> {
     report.is_accepted().then_some(report.value as i64)
 }
 
+/// What a ticket showed that it shouldn't.
+pub enum Finding {
+    /// Its taps break a total.
+    Breaks(&'static str),
+    /// The sides' reports.
+    Reports(Report, Report),
+    /// The report of both; the buffers differ.
+    Buffer(Report),
+}
+
+impl Finding {
+    /// The finding in words, with the ticket.
+    pub fn told(&self, ticket: &Ticket) -> String {
+        match self {
+            Self::Breaks(what) => format!("  {ticket:?}\n    breaks {what}"),
+            Self::Reports(rust, port) => {
+                format!("  {ticket:?}\n    Rust {rust:?}\n    port {port:?}")
+            }
+            Self::Buffer(report) => {
+                format!("  {ticket:?}\n    the same report, {report:?}; the buffer differs")
+            }
+        }
+    }
+}
+
 /// What the comparison of one kind has counted so far.
 #[derive(Default)]
-struct Tally {
-    compared: u64,
-    accepted: u64,
-    differ: u64,
+pub struct Tally {
+    pub compared: u64,
+    pub accepted: u64,
+    pub differ: u64,
     /// How often each refusal was met, by its number and what it carries.
     refused: BTreeMap<(u32, u32), u64>,
     /// Whether each of the kind's cases was met.
     cases: Vec<bool>,
     /// What the taps that both sides have by bits add up to.
-    totals: Totals,
+    pub totals: Totals,
+    /// Where the bytes that the buffers come with begin.
+    pub lent: u64,
 }
 
 impl Tally {
-    fn new(about: &About) -> Self {
+    pub fn new(about: &About) -> Self {
         Self {
             cases: vec![false; about.cases.len()],
             ..Self::default()
         }
     }
 
-    fn compare(&mut self, about: &About, ticket: &Ticket, side: Side, shown: u64) {
+    /// Compares a ticket; what it showed that it shouldn't, if anything. A total is checked if asked.
+    pub fn judge(
+        &mut self,
+        about: &About,
+        ticket: &Ticket,
+        side: Side,
+        totals: bool,
+    ) -> Option<Finding> {
         let answer = designers::rust(ticket);
         let report = answer.report;
-        let mut buffer = Lent::new(ticket.bytes(), self.compared);
+        let mut buffer = Lent::new(ticket.bytes(), self.lent.wrapping_add(self.compared));
         let other = side(ticket, buffer.part());
         self.compared += 1;
         if report.is_accepted() {
@@ -93,29 +127,84 @@ impl Tally {
         }
         let same = report.same(&other);
         if same && holds(&buffer, &answer) {
-            // A planted fault is noticed by its bits alone, so nothing is shown and added up there.
-            if shown > 0 && about.totals && !answer.taps.is_empty() {
-                let halfband = about.kind == Kind::Halfband;
-                let broken = self
-                    .totals
-                    .check(halfband, report.value, &answer.taps, port_q15);
-                if let Some(what) = broken
-                    && self.totals.broken <= shown
-                {
-                    println!("  {ticket:?}\n    breaks {what}");
-                }
+            if !totals || !about.totals || answer.taps.is_empty() {
+                return None;
             }
-            return;
+            let halfband = about.kind == Kind::Halfband;
+            let broken = self
+                .totals
+                .check(halfband, report.value, &answer.taps, port_q15);
+            return broken.map(Finding::Breaks);
         }
         self.differ += 1;
-        if self.differ <= shown {
-            println!("  {ticket:?}");
-            if same {
-                println!("    the same report, {report:?}; the buffer differs");
-            } else {
-                println!("    Rust {report:?}\n    port {other:?}");
+        Some(if same {
+            Finding::Buffer(report)
+        } else {
+            Finding::Reports(report, other)
+        })
+    }
+
+    /// Compares a ticket and shows it if it is one of the first that differ or break a total.
+    fn compare(&mut self, about: &About, ticket: &Ticket, side: Side, shown: u64) {
+        // A planted fault is noticed by its bits alone, so nothing is shown and added up there.
+        if let Some(finding) = self.judge(about, ticket, side, shown > 0) {
+            let times = match finding {
+                Finding::Breaks(_) => self.totals.broken,
+                _ => self.differ,
+            };
+            if times <= shown {
+                println!("{}", finding.told(ticket));
             }
         }
+    }
+
+    /// All that was counted, as words that [`Tally::of_words`] takes back.
+    pub fn words(&self) -> Vec<u64> {
+        let mut words = vec![self.compared, self.accepted, self.differ];
+        words.push(self.refused.len() as u64);
+        for (&(number, carries), &times) in &self.refused {
+            words.extend([u64::from(number), u64::from(carries), times]);
+        }
+        words.extend(self.cases.iter().map(|&met| u64::from(met)));
+        words.extend(self.totals.words());
+        words
+    }
+
+    /// What those words were made of; nothing if they weren't made of this kind's.
+    pub fn of_words(about: &About, words: &mut impl Iterator<Item = u64>) -> Option<Self> {
+        let mut tally = Self::new(about);
+        tally.compared = words.next()?;
+        tally.accepted = words.next()?;
+        tally.differ = words.next()?;
+        for _ in 0..words.next()? {
+            let number = words.next()?.try_into().ok()?;
+            let carries = words.next()?.try_into().ok()?;
+            CARRIES.get(carries as usize)?;
+            tally.refused.insert((number, carries), words.next()?);
+        }
+        for met in &mut tally.cases {
+            *met = words.next()? == 1;
+        }
+        let mut totals = [0; Totals::WORDS];
+        for word in &mut totals {
+            *word = words.next()?;
+        }
+        tally.totals = Totals::of_words(&totals);
+        Some(tally)
+    }
+
+    /// Counts another tally of the same kind in.
+    pub fn add(&mut self, other: &Self) {
+        self.compared += other.compared;
+        self.accepted += other.accepted;
+        self.differ += other.differ;
+        for (&refusal, times) in &other.refused {
+            *self.refused.entry(refusal).or_default() += times;
+        }
+        for (met, now) in self.cases.iter_mut().zip(&other.cases) {
+            *met |= now;
+        }
+        self.totals.add(&other.totals);
     }
 
     /// The refusals met, as `number: how many with what they carry`.
@@ -133,7 +222,7 @@ impl Tally {
         text
     }
 
-    fn print(&self, name: &str) {
+    pub fn print(&self, name: &str) {
         println!(
             "{name}: {} tickets, {} accepted, {} differ{}",
             self.compared,
@@ -143,8 +232,8 @@ impl Tally {
         );
     }
 
-    /// Tells what the kind can give and wasn't met, and what it gave and can't; true if nothing.
-    fn complete(&self, about: &About) -> bool {
+    /// Tells what the kind can give and wasn't met, and what it gave and can't; how many of both.
+    pub fn complete(&self, about: &About) -> (usize, usize) {
         let shown = |&(number, carries): &(u32, u32)| format!("{number} {}", carried(carries));
         let mut missed: Vec<String> = about
             .refusals
@@ -172,7 +261,7 @@ impl Tally {
         for what in &unforeseen {
             println!("{}: {what} met, which the kind can't give", about.name);
         }
-        missed.is_empty() && unforeseen.is_empty()
+        (missed.len(), unforeseen.len())
     }
 }
 
@@ -257,7 +346,7 @@ pub fn run(count: u64, seed: u64) -> bool {
     let mut equal = all.differ == 0;
     for (about, tally) in kinds().zip(&tallies) {
         equal &= tally.differ == 0;
-        equal &= tally.complete(about);
+        equal &= tally.complete(about) == (0, 0);
         if about.totals {
             tally.totals.print(about.name);
             equal &= tally.totals.kept();

@@ -103,6 +103,18 @@ impl Worst {
         }
     }
 
+    fn words(&self) -> [u64; 3] {
+        [self.tickets, self.part.to_bits(), self.taps as u64]
+    }
+
+    fn of_words(words: &[u64]) -> Self {
+        Self {
+            tickets: words[0],
+            part: f64::from_bits(words[1]),
+            taps: words[2] as usize,
+        }
+    }
+
     fn print(&self, name: &str, what: &str) {
         println!(
             "{name}: {what} on {} tickets, at most {:.11} of its bound ({} taps)",
@@ -167,6 +179,41 @@ impl Totals {
         self.tap.add(other.tap);
         self.q15.add(other.q15);
         self.halfbands += other.halfbands;
+    }
+
+    /// All that was found, as words that [`Totals::of_words`] takes back.
+    pub fn words(&self) -> [u64; Self::WORDS] {
+        let [tap, tap_part, tap_taps] = self.tap.words();
+        let [q15, q15_part, q15_taps] = self.q15.words();
+        let (low, high) = self.divisors.unwrap_or_default();
+        [
+            self.broken,
+            self.not_due,
+            tap,
+            tap_part,
+            tap_taps,
+            q15,
+            q15_part,
+            q15_taps,
+            self.halfbands,
+            u64::from(self.divisors.is_some()),
+            low.to_bits(),
+            high.to_bits(),
+        ]
+    }
+
+    pub const WORDS: usize = 12;
+
+    pub fn of_words(words: &[u64; Self::WORDS]) -> Self {
+        let both = (f64::from_bits(words[10]), f64::from_bits(words[11]));
+        Self {
+            broken: words[0],
+            not_due: words[1],
+            tap: Worst::of_words(&words[2..5]),
+            q15: Worst::of_words(&words[5..8]),
+            halfbands: words[8],
+            divisors: (words[9] == 1).then_some(both),
+        }
     }
 
     pub fn print(&self, name: &str) {
