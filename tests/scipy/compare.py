@@ -256,17 +256,22 @@ def lowpass(port):
                  ours, signal.firwin(n, cutoff, window=("kaiser", beta), fs=rate))
 
 
+def halfband_taps(n, beta):
+    """SciPy's low-pass at a quarter of the rate, cleared, mirrored and divided once more; and where it is cleared."""
+    taps = signal.firwin(n, 0.25, window=("kaiser", beta), fs=1.0)
+    away = np.abs(np.arange(n) - n // 2)
+    zeros = (away % 2 == 0) & (away > 0)
+    taps[zeros] = 0
+    taps[n // 2 + 1:] = taps[:n // 2][::-1]
+    return taps / taps.sum(), zeros
+
+
 def halfband(port):
     # The second sum takes the first one's error away and has its own.
     held = Held("halfband", "firwin, zeros, sum", "of the largest", summed(1000))
     cases = [(4 * count(1, 250) - 1, random.uniform(0, 20)) for _ in range(250)]
     for n, beta in cases + [(3, 0.0), (3, 20.0), (7, 5.0), (11, 8.0)]:
-        theirs = signal.firwin(n, 0.25, window=("kaiser", beta), fs=1.0)
-        away = np.abs(np.arange(n) - n // 2)
-        zeros = (away % 2 == 0) & (away > 0)
-        theirs[zeros] = 0
-        theirs[n // 2 + 1:] = theirs[:n // 2][::-1]
-        theirs /= theirs.sum()
+        theirs, zeros = halfband_taps(n, beta)
         ours = port.made("halfband", "<f8", n, beta)
         must(f"half-band of {n}: zeros and mirror images", (ours[zeros] == 0).all() and (ours == ours[::-1]).all())
         held.add(f"{n} taps, beta {beta!r}", ours, theirs)
@@ -293,15 +298,20 @@ def channelizer(port):
 
 # ---- pulses -----------------------------------------------------------------------------------------
 
+def gaussian_taps(bt, samples, span):
+    t = (np.arange(samples * span + 1) - samples * span / 2) / samples
+    taps = np.exp(-2 * (np.pi * bt * t) ** 2 / np.log(2))
+    return taps / taps.sum()
+
+
 def gaussian(port):
     # exp(-y) has y to 4 u of itself, and y exp(-y) is at most 0.37: less than a low-pass tap errs by.
     held = Held("gaussian", "NumPy's formula", "of the largest", summed(1601))
     cases = [(random.uniform(0.2, 1), count(2, 200), int(random.integers(2, 9))) for _ in range(300)]
     for bt, samples, span in cases + [(0.2, 2, 2), (1.0, 2, 8), (1.0, 3, 3), (0.5, 8, 4), (0.3, 200, 8)]:
-        t = (np.arange(samples * span + 1) - samples * span / 2) / samples
-        theirs = np.exp(-2 * (np.pi * bt * t) ** 2 / np.log(2))
-        held.add(f"bt {bt!r}, {samples} samples, span {span}", port.made("gaussian", "<f8", len(t), bt, samples, span),
-                 theirs / theirs.sum())
+        theirs = gaussian_taps(bt, samples, span)
+        held.add(f"bt {bt!r}, {samples} samples, span {span}",
+                 port.made("gaussian", "<f8", len(theirs), bt, samples, span), theirs)
 
 
 def raised(b, samples, span):
@@ -497,6 +507,27 @@ def windows(port):
                     noise.add(f"{name}, {case}", report.bandwidth, n * math.fsum(wide * wide) / total ** 2)
 
 
+# ---- long designs -----------------------------------------------------------------------------------
+
+def long_ones(port):
+    """Sums of thousands of taps, each kind with the bound of its own length."""
+    held = Held("lowpass, long", "signal.firwin", "of the largest", summed(4096))
+    for code, window in WINDOWS.items():
+        for n in (4095, 4096):
+            for cutoff in (0.001, 0.13, 0.25, 0.4999):
+                beta = 8.0 if code == KAISER else 0.0
+                theirs = signal.firwin(n, cutoff, window=("kaiser", beta) if code == KAISER else window, fs=1.0)
+                held.add(f"{window}, {n} taps, cutoff {cutoff!r}",
+                         port.made("lowpass", "<f8", n, cutoff, 1.0, code, beta), theirs)
+    held = Held("halfband, long", "firwin, zeros, sum", "of the largest", summed(4095))
+    for beta in (0.0, 5.0, 8.0, 20.0):
+        held.add(f"4095 taps, beta {beta!r}", port.made("halfband", "<f8", 4095, beta), halfband_taps(4095, beta)[0])
+    held = Held("gaussian, long", "NumPy's formula", "of the largest", summed(16001))
+    for bt in (0.2, 0.3, 0.5, 1.0):
+        held.add(f"bt {bt!r}, 2000 samples, span 8", port.made("gaussian", "<f8", 16001, bt, 2000, 8),
+                 gaussian_taps(bt, 2000, 8))
+
+
 def main():
     parser = argparse.ArgumentParser()
     parser.add_argument("library")
@@ -504,7 +535,8 @@ def main():
     words = parser.parse_args()
     Held.wrong = words.wrong
     port = Port(words.library)
-    for part in (elementary, kaiser, lowpass, halfband, channelizer, gaussian, rrc, sections, formats, windows):
+    for part in (elementary, kaiser, lowpass, halfband, channelizer, gaussian, rrc, sections, formats, windows,
+                 long_ones):
         part(port)
     if words.wrong and words.wrong not in [held.name for held in Held.rows]:
         sys.exit(f"no comparison is named {words.wrong!r}")
