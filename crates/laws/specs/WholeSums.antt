@@ -5,11 +5,12 @@ use Prim.Native.Nat.{ℕ, _+_, _-_, _*_, _^_, _≤_, _<_}
 use native.Mathlib.Nat.{le-trans, le-of-eq, lt-of-le-of-lt, lt-of-lt-of-le, lt-of-mul-lt-mul-right, le-of-mul-le-mul-right, mul-one, mul-pos, mul-comm, mul-sub}
 use native.Mathlib.Omega.{arith}
 use lib.Dec.{T, ltb, ltb→lt, nltb→le}
+use lib.IntN.{pos}
 use lib.Pow.{pow-pos}
-use lib.Ieee.{Float, nan, inf, fin, Format, prec, low, up, down, round, sum, add}
-use lib.Ieee.Back.{round-whole}
+use lib.Ieee.{Float, nan, inf, fin, Format, prec, low, up, down, round, sum, add, ofInt}
+use lib.Ieee.Back.{round-whole, whole-unique}
 use lib.Ieee.Exact.{HasValue}
-use lib.Ieee.Fits.{down-pos}
+use lib.Ieee.Fits.{down-pos, round-fits, add-fits}
 use lib.Ieee.Scale.{round-same}
 use Rattle.laws.specs.Operations.{dist}
 use Rattle.laws.specs.Units.{part, plus, less}
@@ -68,6 +69,21 @@ add-whole f (fin r m e) (fin u n d) s a t b v w h =
   where
     over : (k a c d : ℕ) → k * 1 ≡ a * c → k * d ≡ a * (c * d)
     over k a c d e = let z : k * 1 * d ≡ a * c * d = ap (λ (v : ℕ). v * d) e in omega arith
+
+-- a whole number and 1
+pub add-one-whole : (f : Format) (k : ℕ) {d : Float} → k < 2 ^ prec f → d ≡ ofInt f (pos k) → add f d (ofInt f (pos 1)) ≡ ofInt f (pos (k + 1))
+unfolding ofInt
+add-one-whole f k l e =
+    let one : 1 ≤ 2 ^ prec f = pow-pos (prec f) in
+    let x = round f false k 1 in
+    let y = round f false 1 1 in
+    let sum = add-whole f x y false k false 1 (round-whole f false k (omega arith)) (round-whole f false 1 one) (omega arith) in
+    ap (λ (z : Float). add f z y) e
+    ∙ whole-unique f (add f x y) (round f false (k + 1) 1) false (k + 1) (add-fits f x y) (round-fits f false (k + 1) 1) (read (add f x y) (sum .sign) (sum .n) (sum .value) (sum .sums)) (round-whole f false (k + 1) (omega arith))
+  where
+    read : (z : Float) (sign : Bool) (n : ℕ) → HasValue z sign n 1 → part sign n + (0 + 0) ≡ part (not sign) n + (k + 1) → HasValue z false (k + 1) 1
+    read z false n v e = let q : n ≡ k + 1 = omega arith in subst (λ (m : ℕ). HasValue z false m 1) q v
+    read z true n v e = absurd (omega arith)
 
 -- the same sum in units
 pub sum-units : (f : Format) (x y : Float) (s : Bool) (a : ℕ) (t : Bool) (b : ℕ) → HasValue x s a 1 → HasValue y t b 1 → IsSum f (add f x y) s a t b
