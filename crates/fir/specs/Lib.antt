@@ -1,5 +1,6 @@
 pub mod Delay
 pub mod Windows
+pub mod StepLaws
 pub mod Outcome
 pub mod OutcomeLaws
 pub mod Lowpass

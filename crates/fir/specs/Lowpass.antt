@@ -28,10 +28,14 @@ sinc x = cond (eq x (whole 0)) (whole 1) (sinOf (pi ⊗ x) ⊘ (pi ⊗ x))
 unfoldable pub centre : ℕ → Float
 centre n = whole (n - 1) ⊘ whole 2
 
+-- h[i] without its window
+abbrev pub idealAt : Float → ℕ → ℕ → Float
+idealAt fc n i = whole 2 ⊗ fc ⊗ sinc (whole 2 ⊗ fc ⊗ (whole i ⊖ centre n))
+
 -- h[i], i0 being the series at the window's beta
 unfoldable pub rawAt : Float → Window → Float → ℕ → ℕ → Float
 unfolding sinc centre
-rawAt fc w i0 n i = whole 2 ⊗ fc ⊗ sinc (whole 2 ⊗ fc ⊗ (whole i ⊖ centre n)) ⊗ windowAt w i0 n i
+rawAt fc w i0 n i = idealAt fc n i ⊗ windowAt w i0 n i
 
 -- the last divisor: the sum of the raw taps by rising index
 unfoldable pub divisorOf : Float → Window → ℕ → Float

@@ -54,3 +54,27 @@ shapeAt (Kaiser beta) i0 p d = kaiserAt beta i0 p d
 unfoldable pub windowAt : Window → Float → ℕ → ℕ → Float
 unfolding shapeAt
 windowAt w i0 n i = cond (eqb n 1) (whole 1) (shapeAt w i0 (whole i) (whole (n - 1)))
+
+-- the same in three steps: what its place gives, what its cosines or its series are taken at, and the window by that
+unfoldable pub placeAt : Window → ℕ → ℕ → Float
+unfolding angle kaiserRadicand
+placeAt Hann n i = angle (whole i) (whole (n - 1))
+placeAt Hamming n i = angle (whole i) (whole (n - 1))
+placeAt Blackman n i = angle (whole i) (whole (n - 1))
+placeAt (Kaiser beta) n i = kaiserRadicand (whole i) (whole (n - 1))
+
+unfoldable pub argumentOf : Window → Float → Float
+argumentOf Hann x = x
+argumentOf Hamming x = x
+argumentOf Blackman x = x
+argumentOf (Kaiser beta) x = kaiserArgument beta x
+
+unfoldable pub valueOf : Window → Float → Float → Float
+valueOf Hann i0 x = fraction 1 2 ⊖ fraction 1 2 ⊗ cosOf x
+valueOf Hamming i0 x = fraction 54 100 ⊖ fraction 46 100 ⊗ cosOf x
+valueOf Blackman i0 x = fraction 42 100 ⊖ fraction 1 2 ⊗ cosOf x ⊕ fraction 8 100 ⊗ cosOf (whole 2 ⊗ x)
+valueOf (Kaiser beta) i0 x = kaiserValue i0 x
+
+unfoldable pub valueAt : Window → Float → ℕ → Float → Float
+unfolding valueOf
+valueAt w i0 n x = cond (eqb n 1) (whole 1) (valueOf w i0 x)

@@ -1,12 +1,17 @@
 // The windowed-sinc low-pass: judged first, then its taps one at a time or into a buffer.
 use super::window::Window;
+use super::window::argument_of;
 use super::window::norm;
+use super::window::place_at;
+use super::window::value_at;
+use super::window::values_of;
 use super::window::window_at;
 use refusal::Refusal;
 ghost use mathlib.Core.Path.{_≡_};
 ghost use Prim.Native.Nat.{_^_, _<_, _≤_};
 ghost use lib.ListN.{length, set};
-ghost use Rattle.fir.specs.Lowpass.{sinc, rawAt, inside, countTaken, betaTaken, usable, lowpassOf, tapWith, tapOf, tapsOf, outcomeOf};
+ghost use Rattle.laws.specs.Binary64.{_⊕_, _⊗_};
+ghost use Rattle.fir.specs.Lowpass.{sinc, idealAt, rawAt, inside, countTaken, betaTaken, usable, lowpassOf, tapWith, tapOf, tapsOf, outcomeOf};
 ghost use Rattle.fir.specs.Outcome.{Fills};
 ghost use Rattle.fir.specs.Kept.{Keeps, Totals, Normed, Prepares};
 
@@ -52,14 +57,22 @@ fn sinc_at(x: f64) -> f64
     }
 }
 
-// Tap i of n before the division: 2 fc sinc(2 fc (i − (n − 1)/2)) times the window.
+// 2 fc sinc(2 fc (i − (n − 1)/2)): tap i of n without a window.
+fn ideal_at(fc: f64, n: u64, i: u64) -> f64
+    requires { ⌜ n ≤ 2 ^ 24 ⌝ ∗ ⌜ i < n ⌝ }
+    ensures { λ r. ⌜ r ≡ idealAt fc n i ⌝ }
+{
+    let m = ((n - 1) as f64) / 2.0;
+    let x = 2.0 * fc * ((i as f64) - m);
+    2.0 * fc * sinc_at(x)
+}
+
+// Tap i of n before the division: with the window.
 fn raw_at(fc: f64, w: Window, i0: f64, n: u64, i: u64) -> f64
     requires { ⌜ n ≤ 2 ^ 24 ⌝ ∗ ⌜ i < n ⌝ }
     ensures { λ r. ⌜ r ≡ rawAt fc w i0 n i ⌝ }
 {
-    let m = ((n - 1) as f64) / 2.0;
-    let x = 2.0 * fc * ((i as f64) - m);
-    2.0 * fc * sinc_at(x) * window_at(w, i0, n, i)
+    ideal_at(fc, n, i) * window_at(w, i0, n, i)
 }
 
 // Stores v at i where the list has that place.
@@ -72,18 +85,38 @@ pub fn keep(raws: &mut [f64], i: u64, v: f64)
     }
 }
 
-// The sum of the raw taps, by rising index from +0. As many of them as `raws` has places are kept there, so that they needn't be worked out again.
+// Takes raw tap i up in their sum, and keeps it where `raws` has its place.
+fn take(sum: f64, i: u64, v: f64, raws: &mut [f64]) -> f64
+    ensures { λ r. ⌜ r ≡ sum ⊕ v ⌝ ∗ ⌜ now (raws .exit) ≡ set (now (raws .entry)) i v ⌝ }
+{
+    keep(&mut *raws, i, v);
+    sum + v
+}
+
+// The sum of the raw taps, by rising index from +0. As many of them as `raws` has places are kept there, so that they needn't be worked out again. The taps are taken two at a time, since two of Kaiser's series cost little more than one. What else they need, and the arguments of the next two, stands before the series: where these end is a branch that a processor foretells wrongly, and only what comes before it is worked out alongside.
 fn total(fc: f64, w: Window, i0: f64, n: u64, raws: &mut [f64]) -> f64
-    requires { ⌜ n ≤ 2 ^ 24 ⌝ }
+    requires { ⌜ 0 < n ⌝ ∗ ⌜ n ≤ 2 ^ 24 ⌝ }
     ensures { λ r. ⌜ Totals (rawAt fc w i0 n) n r (now (raws .exit)) ⌝ }
 {
+    let mut x = argument_of(w, place_at(w, n, 0));
+    let mut y = argument_of(w, place_at(w, n, 1));
     let mut sum = 0.0;
     let mut i = 0u64;
-    while i < n {
-        let v = raw_at(fc, w, i0, n, i);
-        keep(&mut *raws, i, v);
-        sum = sum + v;
-        i += 1;
+    while i + 1 < n {
+        let next = argument_of(w, place_at(w, n, i + 2));
+        let after = argument_of(w, place_at(w, n, i + 3));
+        let a = ideal_at(fc, n, i);
+        let b = ideal_at(fc, n, i + 1);
+        let two = values_of(w, i0, x, y);
+        sum = take(sum, i, a * two.first, &mut *raws);
+        sum = take(sum, i + 1, b * two.second, &mut *raws);
+        x = next;
+        y = after;
+        i += 2;
+    }
+    if i < n {
+        let a = ideal_at(fc, n, i);
+        sum = take(sum, i, a * value_at(w, i0, n, x), &mut *raws);
     }
     sum
 }

@@ -8,7 +8,7 @@ use Rattle.laws.specs.Binary64.{_⊘_}
 use Rattle.laws.specs.Sums.{sumTo}
 use Rattle.numbers.specs.Numbers.{positive}
 use Rattle.fir.specs.Lowpass.{rawAt, divisorOf, inside, countTaken, betaTaken, usable}
-use Rattle.fir.specs.LowpassLaws.{count-most, ready, no-divisor, no-beta, no-count, no-cutoff, no-rate, refuses, accepts}
+use Rattle.fir.specs.LowpassLaws.{count-least, count-most, ready, no-divisor, no-beta, no-count, no-cutoff, no-rate, refuses, accepts}
 use Rattle.fir.proofs.lowpass.prepare.Statement.{statement}
 use Rattle.fir.proofs.lowpass.prepare.Tie as tie
 
@@ -59,7 +59,7 @@ past4 : (c : tie.Else4) → betaTaken (c .before .before .before .before .before
 past4 c = sym (c .before .takes-beta .ensures) ∙ not-false _ (c .if4 .left)
 
 total-requires : tie.Need-total-requires
-total-requires c κs = count-most (c .before .before .before .before .before .before .before .before .before .before .before .args .n) (past3 (c .before .before .before .before))
+total-requires c κs = (count-least (c .before .before .before .before .before .before .before .before .before .before .before .args .n) (past3 (c .before .before .before .before)), count-most (c .before .before .before .before .before .before .before .before .before .before .before .args .n) (past3 (c .before .before .before .before)))
 
 -- the sum is the definition's divisor
 abbrev start : tie.After-total → tie.Start

@@ -1,36 +1,19 @@
 -- `fir::lowpass::raw_at` meets its contract. Assumes nothing.
 use borrow.Author.Needs.{needs}
 use mathlib.Core.Path.{refl}
-use native.Mathlib.Omega.{arith}
-use Prim.Native.Nat.{_-_, _^_}
-use lib.Dec.{le→leb}
-use lib.Ieee.{ofBits, ofInt, inFloat}
-use Rattle.fir.specs.Lowpass.{centre, rawAt}
+use Rattle.fir.specs.Lowpass.{rawAt}
 use Rattle.fir.proofs.lowpass.raw_at.Statement.{statement}
 use Rattle.fir.proofs.lowpass.raw_at.Tie as tie
 
-sub-m : tie.Need-sub-m
-sub-m c = search needs
-
-sinc-at-requires : tie.Need-sinc-at-requires
-sinc-at-requires c κs = search needs
+ideal-at-requires : tie.Need-ideal-at-requires
+ideal-at-requires c κs = search needs
 
 window-at-requires : tie.Need-window-at-requires
 window-at-requires c κs = search needs
 
-int-to-float-m : tie.Need-int-to-float-m
-unfolding inFloat
-int-to-float-m c = le→leb (c .before .args .n - 1) (2 ^ 53) (omega arith)
-
-int-to-float-x : tie.Need-int-to-float-x
-unfolding inFloat
-int-to-float-x c = le→leb (c .before .before .args .i) (2 ^ 53) (omega arith)
-
 returns : tie.Need-returns
-unfolding rawAt centre ofInt ofBits
-returns c = rw (c .before .sinc-at .ensures, c .window-at .ensures) refl
+unfolding rawAt
+returns c = rw (c .before .ideal-at .ensures, c .window-at .ensures) refl
 
 pub raw-at-spec : {M : Type 1} → statement M
-raw-at-spec =
-    tie.close
-    (tie.spec sub-m int-to-float-m int-to-float-x sinc-at-requires window-at-requires returns)
+raw-at-spec = tie.close (tie.spec ideal-at-requires window-at-requires returns)
