@@ -1,4 +1,4 @@
--- A buffer of bytes that is filled with samples, one a turn: the room that it has for them, what the loop keeps, its first and its next turn, and its end. Assumes nothing.
+-- A buffer of bytes that is filled with samples, one after the other: the room that it has for them, what the loop keeps, its start, one sample more, and its end. Assumes nothing.
 use mathlib.Core.Path.{_≡_, ap, _∙_}
 use mathlib.Core.List.{List}
 use Prim.Native.Nat.{ℕ, _+_, _*_, _/_, _%_, _<_, _≤_}

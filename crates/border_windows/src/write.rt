@@ -13,6 +13,7 @@ use windows::shape::norm;
 use windows::shape::place_at;
 use windows::shape::takes_shape;
 use windows::shape::value_at;
+use windows::shape::values_at;
 ghost use mathlib.Core.Path.{_≡_};
 ghost use Prim.Native.Nat.{_/_, _%_};
 ghost use lib.ListN.{length};
@@ -21,7 +22,7 @@ ghost use Rattle.windows.specs.Shapes.{sampleAt};
 ghost use Rattle.border_windows.specs.Codes.{symmetryOf};
 ghost use Rattle.border_windows.specs.Samples.{widthOf, sampleBytes, windowBytes, WritesSamples};
 
-// Fills a buffer of whole samples, sample i at its place. While sample i is worked out from its argument, the argument of the next and the first step of the one after it are already under way: where Kaiser's series ends is a branch that a processor foretells wrongly, and only what stands before it is worked out alongside the series.
+// Fills a buffer of whole samples, sample i at its place. The samples are taken two at a time, since two of Kaiser's series cost little more than one, and the arguments of the next two are worked out before: where a series ends is a branch that a processor foretells wrongly, and only what stands before it is worked out alongside.
 fn put_samples(shape: Shape, i0: f64, d: u64, sample: Sample, out: &mut [u8])
     requires { ⌜ length (now out) % widthOf sample ≡ 0 ⌝ }
     ensures { λ _. ⌜ now (out .exit) ≡ chunks (length (now (out .entry)) / widthOf sample) (λ i. sampleBytes sample (sampleAt shape i0 d i)) ⌝ }
@@ -29,12 +30,20 @@ fn put_samples(shape: Shape, i0: f64, d: u64, sample: Sample, out: &mut [u8])
     let wide = width(sample) as usize;
     let n = out.len() / wide;
     let mut x = argument_of(shape, place_at(shape, d, 0));
-    let mut ahead = place_at(shape, d, 1);
-    for i in 0..n {
-        let next = argument_of(shape, ahead);
-        ahead = place_at(shape, d, (i + 2) as u64);
-        store(sample, &mut *out, wide * i, value_at(shape, i0, d, x));
+    let mut y = argument_of(shape, place_at(shape, d, 1));
+    let mut i = 0;
+    while i + 1 < n {
+        let next = argument_of(shape, place_at(shape, d, (i + 2) as u64));
+        let after = argument_of(shape, place_at(shape, d, (i + 3) as u64));
+        let two = values_at(shape, i0, d, x, y);
+        store(sample, &mut *out, wide * i, two.first);
+        store(sample, &mut *out, wide * (i + 1), two.second);
         x = next;
+        y = after;
+        i += 2;
+    }
+    if i < n {
+        store(sample, &mut *out, wide * i, value_at(shape, i0, d, x));
     }
 }
 

@@ -1,6 +1,7 @@
-// The shape of a window, one sample at a time.
+// The shape of a window, one sample or two at a time.
+use series::Pair;
 ghost use mathlib.Core.Path.{_≡_};
-ghost use Rattle.windows.specs.Shapes.{shapeTaken, normOf, divisorOf, harrisAt, placeAt, argumentOf, valueAt, sampleAt};
+ghost use Rattle.windows.specs.Shapes.{shapeTaken, normOf, divisorOf, harrisAt, placeAt, argumentOf, valueOf, valueAt, sampleAt};
 
 const PI: f64 = 3.141592653589793;
 
@@ -60,7 +61,7 @@ fn harris_at(x: f64) -> f64
         - 0.01168 * trig::cos::cos(3.0 * x)
 }
 
-// A sample takes three steps, for a loop that has them at work on one sample each. The first has its place in it: the angle, or Kaiser's radicand, at sample i for a divisor.
+// A sample takes three steps, for a loop that works out the arguments of the next samples before the values of these. The first has its place in it: the angle, or Kaiser's radicand, at sample i for a divisor.
 pub fn place_at(shape: Shape, divisor: u64, i: u64) -> f64
     ensures { λ r. ⌜ r ≡ placeAt shape divisor i ⌝ }
 {
@@ -84,17 +85,52 @@ pub fn argument_of(shape: Shape, place: f64) -> f64
     }
 }
 
-// A sample by its argument x, 1 where the divisor is 0; i0 is the series at beta.
-pub fn value_at(shape: Shape, i0: f64, divisor: u64, x: f64) -> f64
-    ensures { λ r. ⌜ r ≡ valueAt shape i0 divisor x ⌝ }
+// A sample by that, where the divisor isn't 0; i0 is the series at beta.
+fn value_of(shape: Shape, i0: f64, x: f64) -> f64
+    ensures { λ r. ⌜ r ≡ valueOf shape i0 x ⌝ }
 {
-    if divisor == 0 {
-        return 1.0;
-    }
     match shape {
         Shape::Hann => 0.5 - 0.5 * trig::cos::cos(x),
         Shape::BlackmanHarris => harris_at(x),
         Shape::Kaiser(_) => fir::window::kaiser_value(i0, x),
+    }
+}
+
+// Two such samples, where Kaiser's series are summed together.
+fn values_of(shape: Shape, i0: f64, x: f64, y: f64) -> Pair
+    ensures { λ r. ⌜ r .first ≡ valueOf shape i0 x ⌝ ∗ ⌜ r .second ≡ valueOf shape i0 y ⌝ }
+{
+    match shape {
+        Shape::Kaiser(_) => fir::window::kaiser_values(i0, x, y),
+        _ => Pair {
+            first: value_of(shape, i0, x),
+            second: value_of(shape, i0, y),
+        },
+    }
+}
+
+// The sample for a divisor, 1 where that is 0.
+pub fn value_at(shape: Shape, i0: f64, divisor: u64, x: f64) -> f64
+    ensures { λ r. ⌜ r ≡ valueAt shape i0 divisor x ⌝ }
+{
+    if divisor == 0 {
+        1.0
+    } else {
+        value_of(shape, i0, x)
+    }
+}
+
+// Two samples for a divisor, 1 both where that is 0.
+pub fn values_at(shape: Shape, i0: f64, divisor: u64, x: f64, y: f64) -> Pair
+    ensures { λ r. ⌜ r .first ≡ valueAt shape i0 divisor x ⌝ ∗ ⌜ r .second ≡ valueAt shape i0 divisor y ⌝ }
+{
+    if divisor == 0 {
+        Pair {
+            first: 1.0,
+            second: 1.0,
+        }
+    } else {
+        values_of(shape, i0, x, y)
     }
 }
 
