@@ -2,8 +2,9 @@
 use windows::gain::Gain;
 use windows::gain::gain_of;
 ghost use mathlib.Core.Path.{_≡_};
-ghost use Prim.Native.Nat.{_%_};
+ghost use Prim.Native.Nat.{_+_, _%_, _≤_};
 ghost use lib.ListN.{length};
+ghost use Rattle.packed.specs.Bytes.{singleAt};
 ghost use Rattle.windows.specs.Gain.{gainOf};
 ghost use Rattle.border_windows.specs.Level.{singles, gainReport};
 
@@ -23,7 +24,15 @@ pub struct GainReport {
     pub bandwidth: f64,
 }
 
-// Both figures of a buffer of whole f32s, summed by rising index. The bytes are read by index, which the proof shows to be in the buffer, so that no test stands in the loop.
+// The sample whose four bytes begin at `at`. The bytes are read by index, which the proof shows to be in the buffer, so that no test stands in the loop.
+fn sample_at(src: &[u8], at: usize) -> f64
+    requires { ⌜ at + 4 ≤ length (now src) ⌝ }
+    ensures { λ r. ⌜ r ≡ singleAt (now (src .entry)) at ⌝ }
+{
+    packed::wide_in(src[at], src[at + 1], src[at + 2], src[at + 3])
+}
+
+// Both figures of a buffer of whole f32s, summed by rising index. The samples are read two at a time: with fewer jumps in it the loop keeps the pace of its additions wherever it comes to lie.
 fn gain_in(src: &[u8]) -> Gain
     requires { ⌜ length (now src) % 4 ≡ 0 ⌝ }
     ensures { λ r. ⌜ r ≡ gainOf (singles (now (src .entry))) ⌝ }
@@ -31,11 +40,17 @@ fn gain_in(src: &[u8]) -> Gain
     let n = src.len() / 4;
     let mut sum = 0.0;
     let mut squares = 0.0;
-    for i in 0..n {
-        let at = 4 * i;
-        let v = packed::wide_in(src[at], src[at + 1], src[at + 2], src[at + 3]);
-        sum = sum + v;
-        squares = squares + v * v;
+    let mut i = 0usize;
+    while i + 1 < n {
+        let v = sample_at(src, 4 * i);
+        let w = sample_at(src, 4 * i + 4);
+        sum = sum + v + w;
+        squares = squares + v * v + w * w;
+        i += 2;
+    }
+    if i < n {
+        let v = sample_at(src, 4 * i);
+        return gain_of(n as u64, sum + v, squares + v * v);
     }
     gain_of(n as u64, sum, squares)
 }

@@ -1,17 +1,16 @@
 -- `border_windows::level::gain_in` meets its contract. The loop's invariant: both sums so far. Assumes nothing.
-use mathlib.Core.Path.{_≡_, sym, ap, _∙_}
+use mathlib.Core.Path.{_≡_, refl, sym, ap, _∙_}
 use mathlib.Core.List.{List}
 use Prim.Native.Nat.{ℕ, _+_, _*_, _-_, _/_, _<_, _≤_}
 use native.Mathlib.Omega.{arith}
 use borrow.Author.Needs.{needs}
 use lib.ListN.{length, getD}
-use lib.Ieee.{Float, nan, binary32, binary64, ofBits}
+use lib.Ieee.{Float, nan, binary64}
 use Rattle.laws.specs.Binary64.{_⊕_, _⊗_}
 use Rattle.laws.specs.Filled.{length-tabulate, getD-tabulate}
 use Rattle.laws.specs.Sums.{sumTo, sum-none, sum-more}
-use Rattle.packed.specs.Bytes.{joinedFour, singleAt}
-use Rattle.packed.specs.Read.{four}
-use Rattle.windows.specs.Gain.{gainOf}
+use Rattle.packed.specs.Bytes.{singleAt}
+use Rattle.windows.specs.Gain.{summed, gainOf}
 use Rattle.border_windows.specs.Level.{singles}
 use Rattle.border_windows.proofs.level.gain_in.Statement.{statement}
 use Rattle.border_windows.proofs.level.gain_in.Tie as tie
@@ -23,52 +22,56 @@ sample s i = getD (singles s) i nan
 abbrev square : List ℕ → ℕ → Float
 square s i = sample s i ⊗ sample s i
 
--- how many samples, and sample i by its bytes
+-- how many samples, and sample i by its place
 count : (s : List ℕ) → length (singles s) ≡ length s / 4
 count s = length-tabulate (length s / 4) (λ i. singleAt s (4 * i))
 
-element : (s : List ℕ) (i : ℕ) → i < length s / 4 → ofBits binary32 (joinedFour (getD s (4 * i) 0) (getD s (4 * i + 1) 0) (getD s (4 * i + 2) 0) (getD s (4 * i + 3) 0)) ≡ sample s i
-element s i h = ap (λ (n : ℕ). ofBits binary32 n) (four s (4 * i) (omega arith)) ∙ sym (getD-tabulate (length s / 4) (λ k. singleAt s (4 * k)) i nan h)
+element : (s : List ℕ) (i : ℕ) → i < length s / 4 → singleAt s (4 * i) ≡ sample s i
+element s i h = sym (getD-tabulate (length s / 4) (λ k. singleAt s (4 * k)) i nan h)
 
--- a sum with its next term
-more : (f : ℕ → Float) (i : ℕ) {sum v : Float} → sum ≡ sumTo binary64 f i → v ≡ f i → sum ⊕ v ≡ sumTo binary64 f (i + 1)
-more f i e is = rw (e, is) (sum-more binary64 f i)
+-- the first i samples are summed
+record Summed (s : List ℕ) (i : ℕ) (sum squares : Float) : Type 0 where
+  within : i ≤ length s / 4
+  sum-is : sum ≡ sumTo binary64 (sample s) i
+  squares-are : squares ≡ sumTo binary64 (square s) i
+
+module _ {s : List ℕ} {i : ℕ} {sum squares v : Float} (a : Summed s i sum squares) where
+  -- and one more
+  more : {k : ℕ} → k ≡ 4 * i → i < length s / 4 → v ≡ singleAt s k → Summed s (i + 1) (sum ⊕ v) (squares ⊕ v ⊗ v)
+  more at l e =
+      let is : v ≡ sample s i = e ∙ ap (λ (k : ℕ). singleAt s k) at ∙ element s i l in
+      record {
+        within = omega arith;
+        sum-is = rw (a .sum-is, is) (sum-more binary64 (sample s) i);
+        squares-are = rw (a .squares-are, is) (sum-more binary64 (square s) i);
+      }
 
 abbrev Inv-loop : tie.InvT-loop
-Inv-loop src n sum₀ squares₀ i₀ sum squares i = (i ≤ n) × (sum ≡ sumTo binary64 (sample src) i) × (squares ≡ sumTo binary64 (square src) i)
+Inv-loop src n sum₀ squares₀ i₀ sum squares i = Summed src i sum squares
 
 abbrev μ-loop : tie.MeasureT-loop
 μ-loop src n sum₀ squares₀ i₀ sum squares i = n - i
 
 loop-holds : tie.Need-loop-holds Inv-loop μ-loop
-loop-holds c = (omega arith, sum-none binary64 _, sum-none binary64 _)
+loop-holds c = record { within = omega arith; sum-is = sum-none binary64 _; squares-are = sum-none binary64 _ }
 
-mul-at : tie.Need-mul-at Inv-loop μ-loop
-mul-at c = omega arith
+add-loop : tie.Need-add-loop Inv-loop μ-loop
+add-loop c = let w = c .loop .inv .within in omega arith
 
-shared-slice-read-wide-in : tie.Need-shared-slice-read-wide-in Inv-loop μ-loop
-shared-slice-read-wide-in c = omega arith
+mul-sample-at : tie.Need-mul-sample-at Inv-loop μ-loop
+mul-sample-at c = omega arith
 
-add-wide-in : tie.Need-add-wide-in Inv-loop μ-loop
-add-wide-in c = omega arith
+sample-at-requires : tie.Need-sample-at-requires Inv-loop μ-loop
+sample-at-requires c κs = omega arith
 
-shared-slice-read-wide-in-2 : tie.Need-shared-slice-read-wide-in-2 Inv-loop μ-loop
-shared-slice-read-wide-in-2 c = omega arith
+mul-sample-at-2 : tie.Need-mul-sample-at-2 Inv-loop μ-loop
+mul-sample-at-2 c = omega arith
 
-add-wide-in-2 : tie.Need-add-wide-in-2 Inv-loop μ-loop
-add-wide-in-2 c = omega arith
+add-sample-at : tie.Need-add-sample-at Inv-loop μ-loop
+add-sample-at c = omega arith
 
-shared-slice-read-wide-in-3 : tie.Need-shared-slice-read-wide-in-3 Inv-loop μ-loop
-shared-slice-read-wide-in-3 c = omega arith
-
-add-wide-in-3 : tie.Need-add-wide-in-3 Inv-loop μ-loop
-add-wide-in-3 c = omega arith
-
-shared-slice-read-wide-in-4 : tie.Need-shared-slice-read-wide-in-4 Inv-loop μ-loop
-shared-slice-read-wide-in-4 c = omega arith
-
-wide-in-requires : tie.Need-wide-in-requires Inv-loop μ-loop
-wide-in-requires c κs = search needs
+sample-at-requires-2 : tie.Need-sample-at-requires-2 Inv-loop μ-loop
+sample-at-requires-2 c κs = omega arith
 
 add-i : tie.Need-add-i Inv-loop μ-loop
 add-i c = omega arith
@@ -78,22 +81,38 @@ loop-less c = omega arith
 
 loop-again : tie.Need-loop-again Inv-loop μ-loop
 loop-again c =
-    let at = c .before .before .before .before .before .before in
-    let s = at .before .before .args .src .now in
+    let at = c .before .before .before in
     let i = at .loop .i in
-    let v : c .wide-in .result ≡ sample s i = c .wide-in .ensures ∙ element s i (omega arith) in
-    (omega arith, more (sample s) i (at .loop .inv .1) v, more (square s) i (at .loop .inv .2) (ap (λ (x : Float). x ⊗ x) v))
+    let l = c .before .before .loop-test .taken in
+    let two : i + 2 ≡ i + 1 + 1 = omega arith in
+    rw two (more (more (at .loop .inv) refl (omega arith) (c .before .sample-at .ensures)) {k = 4 * i + 4} (omega arith) (omega arith) (c .sample-at2 .ensures))
+
+mul-sample-at-3 : tie.Need-mul-sample-at-3 Inv-loop μ-loop
+mul-sample-at-3 c = omega arith
+
+sample-at-requires-3 : tie.Need-sample-at-requires-3 Inv-loop μ-loop
+sample-at-requires-3 c κs = omega arith
 
 gain-of-requires : tie.Need-gain-of-requires Inv-loop μ-loop
 gain-of-requires c κs = search needs
 
-returns : tie.Need-returns Inv-loop μ-loop
+-- the sums of all the samples
+all : {s : List ℕ} {i : ℕ} {sum squares : Float} → Summed s i sum squares → length s / 4 ≤ i → summed (length s / 4) sum squares ≡ gainOf (singles s)
 unfolding gainOf
+all {s = s} {i = i} a l =
+    let end : i ≡ length s / 4 = omega (arith, a .within) in
+    rw (a .sum-is, a .squares-are, end, count s)
+
+returns : tie.Need-returns Inv-loop μ-loop
 returns c =
-    let at = c .before .before in
-    let s = at .before .before .args .src .now in
-    let end : at .loop .i ≡ length s / 4 = omega arith in
-    cc (count s, end)
+    let at = c .before .before .before .before in
+    c .gain-of .ensures ∙ all (more (at .loop .inv) refl (omega arith) (c .before .sample-at3 .ensures)) (omega arith)
+
+gain-of-requires-2 : tie.Need-gain-of-requires-2 Inv-loop μ-loop
+gain-of-requires-2 c κs = search needs
+
+returns-2 : tie.Need-returns-2 Inv-loop μ-loop
+returns-2 c = c .gain-of2 .ensures ∙ all (c .before .before .before .loop .inv) (omega arith)
 
 pub gain-in-spec : {M : Type 1} → statement M
 gain-in-spec =
@@ -102,17 +121,18 @@ gain-in-spec =
     Inv-loop
     μ-loop
     loop-holds
-    mul-at
-    shared-slice-read-wide-in
-    add-wide-in
-    shared-slice-read-wide-in-2
-    add-wide-in-2
-    shared-slice-read-wide-in-3
-    add-wide-in-3
-    shared-slice-read-wide-in-4
-    wide-in-requires
+    add-loop
+    mul-sample-at
+    sample-at-requires
+    mul-sample-at-2
+    add-sample-at
+    sample-at-requires-2
     add-i
     loop-less
     loop-again
+    mul-sample-at-3
+    sample-at-requires-3
     gain-of-requires
-    returns)
+    returns
+    gain-of-requires-2
+    returns-2)
