@@ -83,9 +83,10 @@ compare: $(LIB)
 day: $(LIB)
 	tests/differential/run day
 
-# Both sides timed in one run.
+# Timed in one run: both sides, then the low-pass beside SciPy's.
 bench: $(LIB)
 	tests/differential/run bench
+	CC="$(CC)" tests/scipy/run $(LIB) --speed
 
 # The stored lists that the programs `replay` (kinds up to 20), `replay_kinds` (21 to 31) and `replay_beside` (32 on) hold the port to: answers of the Rust side alone.
 list: $(LIB)
