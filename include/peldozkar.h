@@ -5,7 +5,7 @@
  * impossible counts included; it allocates nothing, keeps nothing, calls
  * nothing but memset and always returns.
  * On the stack pel_lowpass, pel_spec_design, pel_halfband, pel_gaussian and pel_channelizer_prototype take
- * under 9 KB, the others under 1 KB (x86-64).
+ * 9,120 bytes at most, the others under 1 KB (x86-64); the table of functions in the README has the bytes of each.
  *
  * The bits are the same on every reader: each operation is rounded once to a double, to the nearest,
  * ties to even. A NaN's sign and payload are free.
