@@ -32,7 +32,7 @@ fn sample_at(src: &[u8], at: usize) -> f64
     packed::wide_in(src[at], src[at + 1], src[at + 2], src[at + 3])
 }
 
-// Both figures of a buffer of whole f32s, summed by rising index. The samples are read two at a time: with fewer jumps in it the loop keeps the pace of its additions wherever it comes to lie.
+// Both figures of a buffer of whole f32s, summed by rising index. The samples are read two at a time, which leaves fewer jumps for each.
 fn gain_in(src: &[u8]) -> Gain
     requires { ⌜ length (now src) % 4 ≡ 0 ⌝ }
     ensures { λ r. ⌜ r ≡ gainOf (singles (now (src .entry))) ⌝ }
