@@ -1,11 +1,14 @@
 -- What the answer and the buffer are, from what comes of a ticket. Assumes nothing.
 use mathlib.Core.Path.{_≡_, sym, ap, _∙_, subst}
 use mathlib.Core.List.{List}
-use Prim.Native.Nat.{ℕ, _-_, _%_}
+use Prim.Native.Nat.{ℕ, _-_, _*_, _/_, _%_}
+use native.Mathlib.Omega.{arith}
 use borrow.Author.Tests.{eq-eqb, ne-eqb}
-use lib.Ieee.{Float}
-use Rattle.laws.specs.Chunks.{chunks}
+use lib.ListN.{length}
+use lib.Ieee.{Float, binary64, toBits}
+use Rattle.laws.specs.Chunks.{chunks, chunked}
 use Rattle.packed.specs.Bytes.{floatBytes}
+use Rattle.packed.specs.Laws.{put-all}
 use Rattle.refusal.specs.declared.Refusal.{Refusal}
 use Rattle.refusal.specs.declared.Refusal.the-variants.{Length}
 use Rattle.refusal.specs.declared.Report.{Report}
@@ -33,6 +36,13 @@ module _ {o : Outcome} {before : List ℕ} {r : Report} where
   -- a design, told and with all of its taps
   pub fills : {n : ℕ} {sum : Float} {tap : ℕ → Float} {after : List ℕ} → o ≡ Made n sum tap → r ≡ acceptedOf n sum → after ≡ chunks n (λ i. floatBytes (tap i)) → Writes o before r after
   fills e told put = record { answer = told ∙ ap outcomeReport (sym e); buffer = put ∙ ap (λ (p : Outcome). written p before) (sym e) }
+
+  -- the same where the buffer has room for them and they were put in it one by one
+  pub fills-room : {n : ℕ} {sum : Float} {tap : ℕ → Float} {after : List ℕ} → o ≡ Made n sum tap → r ≡ acceptedOf n sum → Room (length before) o → after ≡ chunked 8 (length before / 8) (λ i. floatBytes (tap i)) before → Writes o before r after
+  fills-room {n} {sum} {tap} e told fit put =
+      let m : length before ≡ 8 * n = subst (Room (length before)) e fit in
+      let k : length before / 8 ≡ n = omega arith in
+      fills e told (put ∙ rw k (put-all 8 (λ i. toBits binary64 (tap i)) n before (omega arith)))
 
   -- the same outcome by another name
   pub writes-same : {p : Outcome} {after : List ℕ} → o ≡ p → Writes o before r after → Writes p before r after

@@ -1,4 +1,4 @@
--- A design of any kind with what its taps need: the series at its beta, and the raw taps that were kept. Definitions only.
+-- What comes of a design by its kind, and what writing its taps needs: the series at its beta, the raw taps that were kept, and room. Definitions only.
 use Prim.Native.Nat.{ℕ, _*_}
 use mathlib.Core.Path.{_≡_}
 use mathlib.Core.List.{List}
@@ -22,22 +22,6 @@ use Rattle.pulses.specs.declared.gaussian_design.GaussianDesigned.{GaussianDesi
 use Rattle.pulses.specs.declared.gaussian_design.GaussianDesigned.the-variants as GaussianDesigned
 use Rattle.raised.specs.Rrc as Rrc
 use Rattle.raised.specs.declared.design.RrcDesigned.{RrcDesigned}
-use Rattle.border.specs.declared.taps.Source.{Source}
-use Rattle.border.specs.declared.taps.Source.the-variants as Source
-
--- tap i
-abbrev pub tapAt : Source → ℕ → Float
-tapAt (Source.Lowpass l i0) i = Lowpass.tapWith l i0 i
-tapAt (Source.Halfband d i0) i = Halfband.tapWith d i0 i
-tapAt (Source.Gaussian g) i = Gaussian.tapOf g i
-tapAt (Source.Rrc d) i = Rrc.tapOf d i
-
--- a list keeps the first raw taps, where any are kept
-abbrev pub KeptFor : Source → List Float → Type 0
-KeptFor (Source.Lowpass l i0) rs = Keeps l i0 rs
-KeptFor (Source.Halfband d i0) rs = Keeps (d .lp) i0 rs
-KeptFor (Source.Gaussian g) rs = Gaussian.Keeps g rs
-KeptFor (Source.Rrc d) rs = Unit {0}
 
 -- what comes of a ticket, by kind
 abbrev pub ofLowpass : Designed → Outcome

@@ -1,6 +1,6 @@
 // The half-band filter, as exports: the design judged, and its taps in a buffer.
-use super::taps::KEPT;
-use super::taps::write_halfband;
+use super::write::KEPT;
+use super::write::write_halfband;
 use halfband::HalfbandDesign;
 use halfband::HalfbandDesigned;
 use refusal::Refusal;

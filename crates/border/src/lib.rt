@@ -9,5 +9,5 @@ pub mod prototype;
 pub mod pulse;
 pub mod shape;
 pub mod spec;
-mod taps;
 mod told;
+mod write;

@@ -1,9 +1,9 @@
 // The windowed-sinc low-pass, as exports: the design judged, and its taps in a buffer.
 use super::codes::Coded;
 use super::codes::window_of;
-use super::taps::KEPT;
-use super::taps::write_lowpass;
 use super::told::told_lowpass;
+use super::write::KEPT;
+use super::write::write_lowpass;
 use fir::lowpass::Lowpass;
 use refusal::Refusal;
 use refusal::Report;

@@ -1,8 +1,8 @@
 // The channelizer's prototype, as exports: how many taps its edges need, the design judged, and its taps in a buffer.
-use super::taps::KEPT;
-use super::taps::write_lowpass;
 use super::told::told_length;
 use super::told::told_lowpass;
+use super::write::KEPT;
+use super::write::write_lowpass;
 use refusal::Refusal;
 use refusal::Report;
 ghost use mathlib.Core.Path.{_≡_};

@@ -1,8 +1,8 @@
 // The low-pass by its specification, as exports: how many taps it needs, the design judged, and its taps in a buffer.
-use super::taps::KEPT;
-use super::taps::write_lowpass;
 use super::told::told_length;
 use super::told::told_lowpass;
+use super::write::KEPT;
+use super::write::write_lowpass;
 use fir::spec::DesignSpec;
 use refusal::Refusal;
 use refusal::Report;

@@ -1,20 +1,17 @@
--- `border::taps::put_kept` meets its contract. The loop's invariant: the first i taps stand in the buffer, and the rest is as it came. Assumes nothing.
-use mathlib.Core.Path.{_≡_, ap, _∙_}
+-- `taps::put_kept` meets its contract. The loop's invariant: the first i taps stand in the buffer, and the rest is as it came. Assumes nothing.
+use mathlib.Core.Path.{_≡_}
 use Prim.Native.Nat.{_*_, _-_, _≤_}
 use native.Mathlib.Omega.{arith}
-use borrow.Author.Needs.{needs}
 use lib.ListN.{length}
-use lib.Ieee.{binary64, toBits}
-use Rattle.laws.specs.Chunks.{chunked}
-use Rattle.packed.specs.Laws.{put-none, put-more, put-length}
-use Rattle.packed.specs.Bytes.{floatBytes}
 use Rattle.fir.specs.Lowpass.{tapWith}
+use Rattle.fir.specs.Kept.{Keeps}
 use Rattle.fir.specs.KeptLaws.{kept-is}
-use Rattle.border.proofs.taps.put_kept.Statement.{statement}
-use Rattle.border.proofs.taps.put_kept.Tie as tie
+use Rattle.taps.specs.Standing.{Standing, at-first, one-more}
+use Rattle.taps.proofs.put_kept.Statement.{statement}
+use Rattle.taps.proofs.put_kept.Tie as tie
 
 abbrev Inv-loop : tie.InvT-loop
-Inv-loop lp i0 raws out₀ m i₀ out i = (i ≤ m) × (out ≡ chunked 8 i (λ k. floatBytes (tapWith lp i0 k)) out₀)
+Inv-loop lp i0 raws out₀ m i₀ out i = (i ≤ m) × Standing (Keeps lp i0 raws) (tapWith lp i0) out₀ i out
 
 abbrev μ-loop : tie.MeasureT-loop
 μ-loop lp i0 raws out₀ m i₀ out i = m - i
@@ -22,7 +19,7 @@ abbrev μ-loop : tie.MeasureT-loop
 returns : tie.Need-returns Inv-loop μ-loop
 returns c =
     let a = c .before .before .before .before .args in
-    (omega arith, put-none 8 (λ k. toBits binary64 (tapWith (a .lp) (a .i0) k)) (a .out .now))
+    (omega arith, at-first (Keeps (a .lp) (a .i0) (a .raws .now)) (tapWith (a .lp) (a .i0)) (a .out .now) .stands)
 
 smaller-requires : tie.Need-smaller-requires Inv-loop μ-loop
 smaller-requires c κs = tt
@@ -40,7 +37,7 @@ room c =
 loop-holds : tie.Need-loop-holds Inv-loop μ-loop
 loop-holds c =
     let a = c .before .before .before .before .before .before .args in
-    (omega arith, put-none 8 (λ k. toBits binary64 (tapWith (a .lp) (a .i0) k)) (a .out .now))
+    (omega arith, at-first (Keeps (a .lp) (a .i0) (a .raws .now)) (tapWith (a .lp) (a .i0)) (a .out .now))
 
 mul-put-f64 : tie.Need-mul-put-f64 Inv-loop μ-loop
 mul-put-f64 c = omega (arith, room (c .before .before .before))
@@ -72,20 +69,16 @@ loop-again c =
     let r = at .before .smaller2 .ensures .0 in
     let q = at .before .before .smaller .ensures .1 in
     let few = at .before .before .before .if1 .left in
-    let tap = kept-is (a .lp) (a .i0) (a .raws .now) i (omega arith) (omega arith) (omega arith) (at .before .before .before .before .before .before .before .pre) in
-    (omega arith, cc (tap, put-more 8 (λ k. toBits binary64 (tapWith (a .lp) (a .i0) k)) i (a .out .now) (omega (arith, room (at .before)))))
+    (omega arith, one-more (at .loop .inv .1) (omega (arith, room (at .before))) (omega arith) (kept-is (a .lp) (a .i0) (a .raws .now) i (omega arith) (omega arith) (omega arith)) (c .before .before .put-f64 .ensures))
 
 same-length : tie.Need-same-length Inv-loop μ-loop
-same-length c =
-    let at = c .before in
-    let a = at .before .before .before .before .before .before .before .args in
-    ap length (at .loop .inv .1) ∙ put-length 8 (λ k. toBits binary64 (tapWith (a .lp) (a .i0) k)) (at .loop .i) (a .out .now) (omega (arith, room (at .before)))
+same-length c = c .before .loop .inv .1 .size
 
 returns-2 : tie.Need-returns-2 Inv-loop μ-loop
 returns-2 c =
     let at = c .before in
     let e : at .loop .i ≡ at .before .smaller2 .result = omega arith in
-    (room (at .before), cc (e, at .loop .inv .1))
+    (room (at .before), rw e at (at .loop .inv .1 .stands))
 
 pub put-kept-spec : {M : Type 1} → statement M
 put-kept-spec =

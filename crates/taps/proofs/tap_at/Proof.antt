@@ -1,10 +1,10 @@
--- `border::taps::tap_at` meets its contract, kind by kind. Assumes nothing.
+-- `taps::tap_at` meets its contract, kind by kind. Assumes nothing.
 use mathlib.Core.Path.{sym, ap, subst, _∙_}
-use Rattle.border.specs.Sources.{tapAt, KeptFor}
-use Rattle.border.specs.declared.taps.Source.{Source}
+use Rattle.taps.specs.Sources.{tapAt, KeptFor}
+use Rattle.taps.specs.declared.Source.{Source}
 use borrow.Author.Needs.{needs}
-use Rattle.border.proofs.taps.tap_at.Statement.{statement}
-use Rattle.border.proofs.taps.tap_at.Tie as tie
+use Rattle.taps.proofs.tap_at.Statement.{statement}
+use Rattle.taps.proofs.tap_at.Tie as tie
 
 enum-known-source : tie.Need-enum-known-source
 enum-known-source c = search needs
