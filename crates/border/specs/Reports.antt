@@ -2,28 +2,14 @@
 use Rattle.laws.specs.Binary64.{whole}
 use Rattle.refusal.specs.declared.Report.{Report}
 use Rattle.refusal.specs.Report.{reportOf, acceptedOf}
-use Rattle.kaiser.specs.declared.order.Order.{Order}
-use Rattle.kaiser.specs.declared.order.Order.the-variants as Order
 use Rattle.kaiser.specs.declared.order.Length.{Length}
 use Rattle.kaiser.specs.declared.order.Length.the-variants as Length
-use Rattle.fir.specs.declared.delay.Delayed.{Delayed}
-use Rattle.fir.specs.declared.delay.Delayed.the-variants as Delayed
 use Rattle.fir.specs.Outcome.{Outcome, Made, Turned}
-
--- taps and beta
-abbrev pub orderReport : Order → Report
-orderReport (Order.Taps n beta) = acceptedOf n beta
-orderReport (Order.Refused why) = reportOf why
 
 -- taps
 abbrev pub lengthReport : Length → Report
 lengthReport (Length.Taps n) = acceptedOf n (whole 0)
 lengthReport (Length.Refused why) = reportOf why
-
--- samples
-abbrev pub delayReport : Delayed → Report
-delayReport (Delayed.Samples n) = acceptedOf n (whole 0)
-delayReport (Delayed.Refused why) = reportOf why
 
 -- taps, and the sum that they were divided by last
 abbrev pub outcomeReport : Outcome → Report

@@ -7,7 +7,7 @@ ghost use Rattle.border.specs.Reports.{lengthReport, outcomeReport};
 ghost use Rattle.border.specs.Sources.{ofLowpass};
 
 // A number of taps, or why there is none.
-pub(crate) fn told_length(length: Length) -> Report
+pub fn told_length(length: Length) -> Report
     ensures { λ r. ⌜ r ≡ lengthReport length ⌝ }
 {
     match length {

@@ -1,6 +1,6 @@
 // Kinds 11 to 15: Kaiser's shape, lengths and delays. A line has the arguments of an export and what it answers: a report, and of beta its bits alone.
-use border::lengths;
-use border::shape;
+use border_numbers::lengths;
+use border_numbers::shape;
 use listed::line::WORDS;
 use listed::pattern;
 use listed::pattern::float_at;

@@ -1,7 +1,7 @@
--- `border::shape::pel_bessel_i0` meets its contract. Assumes nothing.
+-- `border_numbers::shape::pel_bessel_i0` meets its contract. Assumes nothing.
 use borrow.Author.Needs.{needs}
-use Rattle.border.proofs.shape.pel_bessel_i0.Statement.{statement}
-use Rattle.border.proofs.shape.pel_bessel_i0.Tie as tie
+use Rattle.border_numbers.proofs.shape.pel_bessel_i0.Statement.{statement}
+use Rattle.border_numbers.proofs.shape.pel_bessel_i0.Tie as tie
 
 bessel-i0-requires : tie.Need-bessel-i0-requires
 bessel-i0-requires c κs = search needs

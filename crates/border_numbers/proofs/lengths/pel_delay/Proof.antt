@@ -1,10 +1,10 @@
--- `border::lengths::pel_delay` meets its contract, an answer of `delay` at a time. Assumes nothing.
+-- `border_numbers::lengths::pel_delay` meets its contract, an answer of `delay` at a time. Assumes nothing.
 use mathlib.Core.Path.{sym, ap, _∙_}
 use borrow.Author.Needs.{needs}
 use lib.Ieee.{ofInt, ofBits}
-use Rattle.border.specs.Reports.{delayReport}
-use Rattle.border.proofs.lengths.pel_delay.Statement.{statement}
-use Rattle.border.proofs.lengths.pel_delay.Tie as tie
+use Rattle.border_numbers.specs.Reports.{delayReport}
+use Rattle.border_numbers.proofs.lengths.pel_delay.Statement.{statement}
+use Rattle.border_numbers.proofs.lengths.pel_delay.Tie as tie
 
 delay-requires : tie.Need-delay-requires
 delay-requires c κs = search needs

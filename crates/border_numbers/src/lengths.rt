@@ -1,12 +1,13 @@
 // How many taps a design needs and how long it delays, as exports on numbers.
-use super::told::told_length;
+use border::told::told_length;
 use fir::delay::Delayed;
 use kaiser::order::Order;
 use refusal::Report;
 ghost use mathlib.Core.Path.{_≡_};
 ghost use Rattle.fir.specs.Delay.{delayOf};
 ghost use Rattle.kaiser.specs.Kaiser.{orderOf, halfbandLenOf};
-ghost use Rattle.border.specs.Reports.{orderReport, lengthReport, delayReport};
+ghost use Rattle.border.specs.Reports.{lengthReport};
+ghost use Rattle.border_numbers.specs.Reports.{orderReport, delayReport};
 
 // Kaiser's estimate for a ripple in dB: the taps as the count, 1 to 16777217 and odd, and beta as the value. Refused: 4 where the ripple's size isn't finite or is below 8; 3 where 2 transition / rate isn't finite and positive; 3 with 0, rate, transition where the estimate is above 2^24. Example: (60, 100, 8000) has 293 taps.
 #[no_mangle]

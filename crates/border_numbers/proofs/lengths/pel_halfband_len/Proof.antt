@@ -1,9 +1,9 @@
--- `border::lengths::pel_halfband_len` meets its contract. Assumes nothing.
+-- `border_numbers::lengths::pel_halfband_len` meets its contract. Assumes nothing.
 use mathlib.Core.Path.{ap, _∙_}
 use borrow.Author.Needs.{needs}
 use Rattle.border.specs.Reports.{lengthReport}
-use Rattle.border.proofs.lengths.pel_halfband_len.Statement.{statement}
-use Rattle.border.proofs.lengths.pel_halfband_len.Tie as tie
+use Rattle.border_numbers.proofs.lengths.pel_halfband_len.Statement.{statement}
+use Rattle.border_numbers.proofs.lengths.pel_halfband_len.Tie as tie
 
 halfband-len-requires : tie.Need-halfband-len-requires
 halfband-len-requires c κs = search needs

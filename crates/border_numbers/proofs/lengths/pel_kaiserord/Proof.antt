@@ -1,9 +1,9 @@
--- `border::lengths::pel_kaiserord` meets its contract, an answer of `kaiserord` at a time. Assumes nothing.
+-- `border_numbers::lengths::pel_kaiserord` meets its contract, an answer of `kaiserord` at a time. Assumes nothing.
 use mathlib.Core.Path.{sym, ap, _∙_}
 use borrow.Author.Needs.{needs}
-use Rattle.border.specs.Reports.{orderReport}
-use Rattle.border.proofs.lengths.pel_kaiserord.Statement.{statement}
-use Rattle.border.proofs.lengths.pel_kaiserord.Tie as tie
+use Rattle.border_numbers.specs.Reports.{orderReport}
+use Rattle.border_numbers.proofs.lengths.pel_kaiserord.Statement.{statement}
+use Rattle.border_numbers.proofs.lengths.pel_kaiserord.Tie as tie
 
 kaiserord-requires : tie.Need-kaiserord-requires
 kaiserord-requires c κs = search needs

@@ -1,0 +1,18 @@
+-- What is told of Kaiser's estimate and of a delay. Definitions only.
+use Rattle.laws.specs.Binary64.{whole}
+use Rattle.refusal.specs.declared.Report.{Report}
+use Rattle.refusal.specs.Report.{reportOf, acceptedOf}
+use Rattle.kaiser.specs.declared.order.Order.{Order}
+use Rattle.kaiser.specs.declared.order.Order.the-variants as Order
+use Rattle.fir.specs.declared.delay.Delayed.{Delayed}
+use Rattle.fir.specs.declared.delay.Delayed.the-variants as Delayed
+
+-- taps and beta
+abbrev pub orderReport : Order → Report
+orderReport (Order.Taps n beta) = acceptedOf n beta
+orderReport (Order.Refused why) = reportOf why
+
+-- samples
+abbrev pub delayReport : Delayed → Report
+delayReport (Delayed.Samples n) = acceptedOf n (whole 0)
+delayReport (Delayed.Refused why) = reportOf why
