@@ -1,18 +1,10 @@
 -- What is told of a conversion: one definition that gives number and values for each case. Definitions only.
 use Prim.Native.Nat.{ℕ}
-use lib.Ieee.{binary64, ofInt}
 use Rattle.laws.specs.Binary64.{whole}
 use Rattle.refusal.specs.declared.Report.{Report}
 use Rattle.refusal.specs.Report.{reportOf, acceptedOf}
-use Rattle.conversions.specs.declared.q15.Coded.{Coded}
-use Rattle.conversions.specs.declared.q15.Coded.the-variants as Coded
 use Rattle.conversions.specs.declared.q15.Converted.{Converted}
 use Rattle.conversions.specs.declared.q15.Converted.the-variants as Converted
-
--- a Q15 or Q14 number
-abbrev pub codedReport : Coded → Report
-codedReport (Coded.Number q) = acceptedOf 0 (ofInt binary64 q)
-codedReport (Coded.Refused why) = reportOf why
 
 -- how many elements were converted, all of n
 abbrev pub convertedReport : ℕ → Converted → Report

@@ -1,4 +1,5 @@
--- What is told of Kaiser's estimate and of a delay. Definitions only.
+-- What is told of Kaiser's estimate, of a delay and of a Q15 or Q14 number. Definitions only.
+use lib.Ieee.{binary64, ofInt}
 use Rattle.laws.specs.Binary64.{whole}
 use Rattle.refusal.specs.declared.Report.{Report}
 use Rattle.refusal.specs.Report.{reportOf, acceptedOf}
@@ -6,6 +7,8 @@ use Rattle.kaiser.specs.declared.order.Order.{Order}
 use Rattle.kaiser.specs.declared.order.Order.the-variants as Order
 use Rattle.fir.specs.declared.delay.Delayed.{Delayed}
 use Rattle.fir.specs.declared.delay.Delayed.the-variants as Delayed
+use Rattle.conversions.specs.declared.q15.Coded.{Coded}
+use Rattle.conversions.specs.declared.q15.Coded.the-variants as Coded
 
 -- taps and beta
 abbrev pub orderReport : Order → Report
@@ -16,3 +19,8 @@ orderReport (Order.Refused why) = reportOf why
 abbrev pub delayReport : Delayed → Report
 delayReport (Delayed.Samples n) = acceptedOf n (whole 0)
 delayReport (Delayed.Refused why) = reportOf why
+
+-- a Q15 or Q14 number
+abbrev pub codedReport : Coded → Report
+codedReport (Coded.Number q) = acceptedOf 0 (ofInt binary64 q)
+codedReport (Coded.Refused why) = reportOf why

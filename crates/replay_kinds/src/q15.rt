@@ -1,7 +1,7 @@
 // Kinds 29 to 31: numbers to Q15. A buffer that is converted is judged apart.
 use crate::converted;
-use border_formats::single::pel_q15_from_f64;
-use border_formats::single::pel_q15_tap;
+use border_numbers::single::pel_q15_from_f64;
+use border_numbers::single::pel_q15_tap;
 use listed::lent;
 use listed::line::WORDS;
 use listed::pattern::float_at;

@@ -1,9 +1,9 @@
--- `border_formats::single::pel_q14_from_f64` meets its contract. Assumes nothing.
+-- `border_numbers::single::pel_q14_from_f64` meets its contract. Assumes nothing.
 use mathlib.Core.Path.{ap, _∙_}
 use borrow.Author.Needs.{needs}
-use Rattle.border_formats.specs.Reports.{codedReport}
-use Rattle.border_formats.proofs.single.pel_q14_from_f64.Statement.{statement}
-use Rattle.border_formats.proofs.single.pel_q14_from_f64.Tie as tie
+use Rattle.border_numbers.specs.Reports.{codedReport}
+use Rattle.border_numbers.proofs.single.pel_q14_from_f64.Statement.{statement}
+use Rattle.border_numbers.proofs.single.pel_q14_from_f64.Tie as tie
 
 q14-from-f64-requires : tie.Need-q14-from-f64-requires
 q14-from-f64-requires c κs = search needs

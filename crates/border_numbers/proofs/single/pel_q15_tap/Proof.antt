@@ -1,9 +1,9 @@
--- `border_formats::single::pel_q15_tap` meets its contract. Assumes nothing.
+-- `border_numbers::single::pel_q15_tap` meets its contract. Assumes nothing.
 use mathlib.Core.Path.{ap, _∙_}
 use borrow.Author.Needs.{needs}
-use Rattle.border_formats.specs.Reports.{codedReport}
-use Rattle.border_formats.proofs.single.pel_q15_tap.Statement.{statement}
-use Rattle.border_formats.proofs.single.pel_q15_tap.Tie as tie
+use Rattle.border_numbers.specs.Reports.{codedReport}
+use Rattle.border_numbers.proofs.single.pel_q15_tap.Statement.{statement}
+use Rattle.border_numbers.proofs.single.pel_q15_tap.Tie as tie
 
 q15-tap-requires : tie.Need-q15-tap-requires
 q15-tap-requires c κs = search needs

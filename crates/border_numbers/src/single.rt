@@ -4,7 +4,7 @@ use refusal::Report;
 ghost use mathlib.Core.Path.{_≡_};
 ghost use Rattle.conversions.specs.Q15.{q15Of, q15TapOf};
 ghost use Rattle.conversions.specs.Q14.{q14TapOf};
-ghost use Rattle.border_formats.specs.Reports.{codedReport};
+ghost use Rattle.border_numbers.specs.Reports.{codedReport};
 
 // floor(32768 x + 0.5), held to −32768 and 32767; 0 for a NaN.
 #[no_mangle]

@@ -1,4 +1,4 @@
--- `border_formats::single::told` meets its contract: the number that it is told of has 16 bits. Assumes nothing.
+-- `border_numbers::single::told` meets its contract: the number that it is told of has 16 bits. Assumes nothing.
 use mathlib.Core.Path.{sym, ap, _∙_}
 use mir.Syntax.{w16}
 use mir.ValLaws.{toZ-ofZ}
@@ -6,9 +6,9 @@ use lib.IntN.{ℤ}
 use lib.Ieee.{binary64, ofInt}
 use borrow.Author.Needs.{needs}
 use Rattle.refusal.specs.Report.{acceptedOf}
-use Rattle.border_formats.specs.Reports.{codedReport}
-use Rattle.border_formats.proofs.single.told.Statement.{statement}
-use Rattle.border_formats.proofs.single.told.Tie as tie
+use Rattle.border_numbers.specs.Reports.{codedReport}
+use Rattle.border_numbers.proofs.single.told.Statement.{statement}
+use Rattle.border_numbers.proofs.single.told.Tie as tie
 
 enum-known-c : tie.Need-enum-known-c
 enum-known-c c = search needs
