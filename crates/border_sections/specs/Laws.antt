@@ -18,8 +18,8 @@ use Rattle.fir.specs.Outcome.{Outcome, Turned, stored, Fills}
 use Rattle.fir.specs.declared.lowpass.Filled.{Filled}
 use Rattle.sections.specs.declared.biquad.Response.{Response}
 use Rattle.sections.specs.declared.biquad.Verdict.the-variants.{Fine}
-use Rattle.sections.specs.Butterworth.{coefAt, butterworthOf}
-use Rattle.sections.specs.SectionLaws.{Right}
+use Rattle.butterworth.specs.Butterworth.{coefAt, butterworthOf}
+use Rattle.butterworth.specs.SectionLaws.{Right}
 use Rattle.border.specs.Taps.{Writes}
 use Rattle.border.specs.Laws.{leaves, fills, writes-same}
 use Rattle.border_sections.specs.Numbers.{numbersOf}

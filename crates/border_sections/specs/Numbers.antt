@@ -11,7 +11,7 @@ use Rattle.fir.specs.Outcome.{Outcome, Made, Turned}
 use Rattle.sections.specs.declared.biquad.Verdict.{Verdict}
 use Rattle.sections.specs.declared.biquad.Verdict.the-variants.{Fine, Refused}
 use Rattle.sections.specs.Biquad.{biquadOf}
-use Rattle.sections.specs.Butterworth.{butterworthOf}
+use Rattle.butterworth.specs.Butterworth.{butterworthOf}
 use Rattle.sections.specs.Preemphasis.{preemphasisOf}
 use Rattle.border.specs.Taps.{wholeTaps}
 use Rattle.border_sections.specs.declared.codes.Coded.{Coded}

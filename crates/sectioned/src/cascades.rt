@@ -1,6 +1,7 @@
 // Examples of Butterworth filters.
 use crate::response::at_zero;
 use crate::response::power_at_quarter;
+use butterworth::butterworth_sos;
 use expect::answers::near;
 use expect::answers::none;
 use expect::answers::of_filled;
@@ -10,7 +11,6 @@ use expect::tell::Counts;
 use expect::tell::example;
 use refusal::Refusal;
 use sections::biquad::Response;
-use sections::butterworth::butterworth_sos;
 
 const RATE: f64 = 48000.0;
 

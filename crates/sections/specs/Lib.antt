@@ -1,4 +1,2 @@
 pub mod Biquad
 pub mod Preemphasis
-pub mod Butterworth
-pub mod SectionLaws

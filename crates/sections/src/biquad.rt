@@ -26,7 +26,7 @@ pub struct Biquad {
 }
 
 // Whether a centre lies between 0 and half of a finite rate.
-pub(crate) fn takes_centre(centre: f64, rate: f64) -> bool
+pub fn takes_centre(centre: f64, rate: f64) -> bool
     ensures { λ r. ⌜ r ≡ centreTaken centre rate ⌝ }
 {
     0.0 < centre && centre < rate / 2.0 && numbers::is_finite(rate)

@@ -1,4 +1,3 @@
-// Recursive filters: the Audio EQ Cookbook's second-order sections, Butterworth cascades of them, and pre-emphasis.
+// Recursive filters: the Audio EQ Cookbook's second-order sections, and pre-emphasis.
 pub mod biquad;
-pub mod butterworth;
 pub mod preemphasis;

@@ -4,7 +4,7 @@ use Prim.Native.Nat.{ℕ, _/_}
 use borrow.Author.Needs.{needs}
 use lib.ListN.{length}
 use Rattle.fir.specs.Outcome.{Outcome}
-use Rattle.sections.specs.Butterworth.{butterworthOf}
+use Rattle.butterworth.specs.Butterworth.{butterworthOf}
 use Rattle.sections.specs.declared.biquad.Response.{Response}
 use Rattle.border.specs.Laws.{leaves, writes-same, leaves-part, writes-whole}
 use Rattle.border_sections.specs.Numbers.{butterworthBytes}

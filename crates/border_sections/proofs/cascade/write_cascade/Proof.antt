@@ -8,8 +8,8 @@ use lib.ListN.{length, take, length-append}
 use lib.Seq.{length-take-le, take-at}
 use lib.Ieee.{Float}
 use Rattle.laws.specs.Filled.{tabulate, length-tabulate}
-use Rattle.sections.specs.Butterworth.{coefAt}
-use Rattle.sections.specs.SectionLaws.{Right, right, turned}
+use Rattle.butterworth.specs.Butterworth.{coefAt}
+use Rattle.butterworth.specs.SectionLaws.{Right, right, turned}
 use Rattle.border.specs.Laws.{leaves}
 use Rattle.border_sections.specs.Laws.{listed, writes-listed}
 use Rattle.border_sections.proofs.cascade.write_cascade.Statement.{statement}

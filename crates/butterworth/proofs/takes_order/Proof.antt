@@ -1,12 +1,12 @@
--- `sections::butterworth::takes_order` meets its contract. Assumes nothing.
+-- `butterworth::takes_order` meets its contract. Assumes nothing.
 use mathlib.Core.Path.{_≡_, sym, _∙_}
 use mathlib.Core.Bool.{true, false, true≢false}
 use borrow.Author.Tests.{le-leb, lt-leb}
 use lib.Dec.{leb}
 use Rattle.laws.specs.Cases.{either}
-use Rattle.sections.specs.Butterworth.{orderTaken}
-use Rattle.sections.proofs.butterworth.takes_order.Statement.{statement}
-use Rattle.sections.proofs.butterworth.takes_order.Tie as tie
+use Rattle.butterworth.specs.Butterworth.{orderTaken}
+use Rattle.butterworth.proofs.takes_order.Statement.{statement}
+use Rattle.butterworth.proofs.takes_order.Tie as tie
 
 returns : tie.Need-returns
 unfolding orderTaken

@@ -20,12 +20,12 @@ use Rattle.fir.specs.Outcome.{Outcome, Made, Turned, answered}
 use Rattle.fir.specs.declared.lowpass.Filled.the-variants as Filled
 use Rattle.refusal.specs.declared.Refusal.{Refusal}
 use Rattle.refusal.specs.declared.Refusal.the-variants.{Plain, Range, Length}
 use Rattle.sections.specs.Biquad.{centreTaken, qualityTaken, sectionOf, biquadOf}
-use Rattle.sections.specs.Butterworth.{responseTaken, orderTaken, qualityOf, coefAt, butterworthOf}
+use Rattle.butterworth.specs.Butterworth.{responseTaken, orderTaken, qualityOf, coefAt, butterworthOf}
 use Rattle.sections.specs.declared.biquad.Response.{Response}
 use Rattle.sections.specs.declared.biquad.Response.the-variants.{Lowpass, Highpass, Bandpass, Notch}
 use Rattle.sections.specs.declared.biquad.Verdict.the-variants.{Fine}
 use Rattle.sections.specs.declared.biquad.Biquad.{Biquad}
 
 -- ---- a list stored into another, one element more
 module _ {A : Type 0} where

@@ -1,8 +1,8 @@
--- `sections::butterworth::takes_response` meets its contract, a response at a time. Assumes nothing.
+-- `butterworth::takes_response` meets its contract, a response at a time. Assumes nothing.
 use borrow.Author.Needs.{needs}
-use Rattle.sections.specs.Butterworth.{responseTaken}
-use Rattle.sections.proofs.butterworth.takes_response.Statement.{statement}
-use Rattle.sections.proofs.butterworth.takes_response.Tie as tie
+use Rattle.butterworth.specs.Butterworth.{responseTaken}
+use Rattle.butterworth.proofs.takes_response.Statement.{statement}
+use Rattle.butterworth.proofs.takes_response.Tie as tie
 
 enum-told : tie.Need-enum-told
 enum-told c = search needs

@@ -1,15 +1,15 @@
 // Butterworth filters of even order as sections, five numbers each, one after the other.
-use super::biquad::Response;
-use super::biquad::biquad_coefs;
-use super::biquad::takes_centre;
 use fir::lowpass::Filled;
 use refusal::Refusal;
+use sections::biquad::Response;
+use sections::biquad::biquad_coefs;
+use sections::biquad::takes_centre;
 ghost use mathlib.Core.Path.{_≡_};
 ghost use Prim.Native.Nat.{_+_, _<_, _≤_};
 ghost use lib.ListN.{length};
 ghost use lib.Seq.{sets};
 ghost use Rattle.fir.specs.Outcome.{answered, Fills};
-ghost use Rattle.sections.specs.Butterworth.{responseTaken, orderTaken, qualityOf, butterworthOf};
+ghost use Rattle.butterworth.specs.Butterworth.{responseTaken, orderTaken, qualityOf, butterworthOf};
 
 const PI: f64 = 3.141592653589793;
 

@@ -1,4 +1,4 @@
--- `sections::butterworth::butterworth_sos` meets its contract: what `judge` answers, and then the loop. Its invariant: the sections so far stand at the front. Assumes nothing.
+-- `butterworth::butterworth_sos` meets its contract: what `judge` answers, and then the loop. Its invariant: the sections so far stand at the front. Assumes nothing.
 use mathlib.Core.Path.{_≡_, sym, ap, _∙_}
 use mathlib.Core.List.{List}
 use Prim.Native.Nat.{ℕ, _*_, _≤_, _-_}
@@ -9,12 +9,12 @@ use lib.Seq.{sets}
 use lib.Ieee.{Float}
 use Rattle.laws.specs.Filled.{tabulate, filled, fill-none, fill-all, length-filled}
 use Rattle.fir.specs.OutcomeLaws.{fills, leaves}
 use Rattle.sections.specs.Biquad.{biquadOf}
-use Rattle.sections.specs.Butterworth.{qualityOf, coefAt}
-use Rattle.sections.specs.SectionLaws.{section-stored, Right, right, turned}
+use Rattle.butterworth.specs.Butterworth.{qualityOf, coefAt}
+use Rattle.butterworth.specs.SectionLaws.{section-stored, Right, right, turned}
 use Rattle.sections.specs.declared.biquad.Biquad.{Biquad}
-use Rattle.sections.proofs.butterworth.butterworth_sos.Statement.{statement}
-use Rattle.sections.proofs.butterworth.butterworth_sos.Tie as tie
+use Rattle.butterworth.proofs.butterworth_sos.Statement.{statement}
+use Rattle.butterworth.proofs.butterworth_sos.Tie as tie
 
 abbrev Inv-loop : tie.InvT-loop
 Inv-loop response order cutoff rate sos₀ sections i₀ sos i = (i ≤ sections) × (sos ≡ filled (5 * i) (coefAt response order cutoff rate) sos₀)

@@ -1,4 +1,4 @@
--- `sections::butterworth::put_section` meets its contract. The loop's invariant: the first numbers are stored. Assumes nothing.
+-- `butterworth::put_section` meets its contract. The loop's invariant: the first numbers are stored. Assumes nothing.
 use mathlib.Core.Path.{_≡_, refl, ap, _∙_}
 use mathlib.Core.List.{List}
 use Prim.Native.Nat.{ℕ, suc, _+_, _≤_, _-_}
@@ -7,9 +7,9 @@ use borrow.Author.Needs.{needs, scaled-fits}
 use lib.ListN.{length, set, take, getD}
 use lib.Seq.{sets, length-sets}
 use lib.Ieee.{Float, nan}
-use Rattle.sections.specs.SectionLaws.{sets-more, take-all}
-use Rattle.sections.proofs.butterworth.put_section.Statement.{statement}
-use Rattle.sections.proofs.butterworth.put_section.Tie as tie
+use Rattle.butterworth.specs.SectionLaws.{sets-more, take-all}
+use Rattle.butterworth.proofs.put_section.Statement.{statement}
+use Rattle.butterworth.proofs.put_section.Tie as tie
 
 abbrev Inv-loop : tie.InvT-loop
 Inv-loop sos₀ at coefs j₀ sos j = (j ≤ 5) × (sos ≡ sets sos₀ at (take j coefs))

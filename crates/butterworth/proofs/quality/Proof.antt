@@ -1,12 +1,12 @@
--- `sections::butterworth::quality` meets its contract. Assumes nothing.
+-- `butterworth::quality` meets its contract. Assumes nothing.
 use Prim.Native.Nat.{_+_, _^_}
 use native.Mathlib.Omega.{arith}
 use borrow.Author.Needs.{needs}
 use lib.Dec.{le→leb}
 use lib.Ieee.{ofBits, ofInt, inFloat}
-use Rattle.sections.specs.Butterworth.{qualityOf}
-use Rattle.sections.proofs.butterworth.quality.Statement.{statement}
-use Rattle.sections.proofs.butterworth.quality.Tie as tie
+use Rattle.butterworth.specs.Butterworth.{qualityOf}
+use Rattle.butterworth.proofs.quality.Statement.{statement}
+use Rattle.butterworth.proofs.quality.Tie as tie
 
 add-k : tie.Need-add-k
 add-k c = search needs

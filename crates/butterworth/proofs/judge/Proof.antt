@@ -1,4 +1,4 @@
--- `sections::butterworth::judge` meets its contract: what each test says, and then an answer at a time. Assumes nothing.
+-- `butterworth::judge` meets its contract: what each test says, and then an answer at a time. Assumes nothing.
 use mathlib.Core.Path.{_≡_, sym, ap, _∙_}
 use mathlib.Core.Bool.{true}
 use Prim.Native.Nat.{_*_, _/_}
@@ -7,10 +7,10 @@ use borrow.Author.Needs.{needs}
 use borrow.Author.Tests.{not-true, not-false, eq-eqb, ne-eqb}
 use lib.Ieee.{ofBits, ofInt}
 use Rattle.fir.specs.Outcome.{answered}
-use Rattle.sections.specs.Butterworth.{responseTaken, orderTaken}
-use Rattle.sections.specs.SectionLaws.{order-is, no-response, no-order, no-length, no-centre, made}
-use Rattle.sections.proofs.butterworth.judge.Statement.{statement}
-use Rattle.sections.proofs.butterworth.judge.Tie as tie
+use Rattle.butterworth.specs.Butterworth.{responseTaken, orderTaken}
+use Rattle.butterworth.specs.SectionLaws.{order-is, no-response, no-order, no-length, no-centre, made}
+use Rattle.butterworth.proofs.judge.Statement.{statement}
+use Rattle.butterworth.proofs.judge.Tie as tie
 
 -- ---- what each test that was passed says
 past1 : (c : tie.Else1) → responseTaken (c .before .before .args .response) ≡ true

@@ -1,0 +1,2 @@
+pub mod Butterworth
+pub mod SectionLaws
