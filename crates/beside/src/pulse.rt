@@ -1,4 +1,5 @@
 // Examples of the root-raised-cosine pulse.
+use buffered::rrc::rrc;
 use expect::answers::nan;
 use expect::answers::near;
 use expect::answers::none;
@@ -13,7 +14,6 @@ use expect::tell::example;
 use raised::design::Rrc;
 use raised::design::RrcDesigned;
 use raised::design::rrc_len;
-use raised::fill::rrc;
 use refusal::Refusal;
 
 // Whether a pulse has so many taps.

@@ -1,5 +1,4 @@
 pub mod Halfband
 pub mod HalfbandLaws
 pub mod Distance
-pub mod Agree
 pub mod Mirror

@@ -1,18 +1,15 @@
 // Half-band filters: every second tap but the middle one is zero, the right half mirrors the left, and the taps add up to 1.
 use fir::lowpass::Designed;
-use fir::lowpass::Filled;
 use fir::lowpass::Lowpass;
 use fir::lowpass::is_usable;
 use fir::window::Window;
 use refusal::Refusal;
 ghost use mathlib.Core.Path.{_≡_};
 ghost use Prim.Native.Nat.{_<_};
-ghost use lib.ListN.{length};
 ghost use lib.Ieee.{binary64};
 ghost use Rattle.laws.specs.Sums.{sumTo};
-ghost use Rattle.fir.specs.Outcome.{Fills};
 ghost use Rattle.fir.specs.Kept.{Keeps};
-ghost use Rattle.halfband.specs.Halfband.{lengthTaken, vanishes, unscaledWith, halfbandOf, tapWith, tapOf, Prepares, halfbandTapsOf};
+ghost use Rattle.halfband.specs.Halfband.{lengthTaken, vanishes, unscaledWith, halfbandOf, tapWith, tapOf, Prepares};
 
 // A design: the low-pass that it is made from, how many taps, and the sum that they are divided by last.
 pub struct HalfbandDesign {
@@ -153,26 +150,5 @@ impl HalfbandDesign {
         let lp = self.lp;
         let w = lp.window;
         kept_tap(self, fir::window::norm(w), &none, k)
-    }
-}
-
-// Fills the buffer with the taps of a half-band of as many taps as it has elements; refused as `prepare`, with the buffer as it came. Example: 3 taps with beta 0 are 0.28, 0.44, 0.28, nearly; 5 are refused with 6.
-pub fn halfband_taps(beta: f64, taps: &mut [f64]) -> Filled
-    ensures { λ r. ⌜ Fills (halfbandTapsOf beta (length (now (taps .entry)))) (now (taps .entry)) r (now (taps .exit)) ⌝ }
-{
-    let n = taps.len();
-    let designed = HalfbandDesign::new(beta, n as u64);
-    match designed {
-        HalfbandDesigned::Ready(d) => {
-            let none = [0.0f64; 0];
-            let lp = d.lp;
-            let w = lp.window;
-            let i0 = fir::window::norm(w);
-            for k in 0..n {
-                taps[k] = kept_tap(d, i0, &none, k as u64);
-            }
-            Filled::Done
-        }
-        HalfbandDesigned::Refused(why) => Filled::Refused(why),
     }
 }

@@ -1,4 +1,5 @@
 // Examples of the Gaussian pulse.
+use buffered::gaussian::gaussian;
 use expect::answers::near;
 use expect::answers::none;
 use expect::answers::of_filled;
@@ -8,7 +9,6 @@ use expect::taps::others_below;
 use expect::taps::sum;
 use expect::tell::Counts;
 use expect::tell::example;
-use pulses::gaussian::gaussian;
 use pulses::gaussian_design::Gaussian;
 use pulses::gaussian_design::GaussianDesigned;
 use refusal::Refusal;

@@ -1,4 +1,5 @@
 // Examples of half-band filters, by both routes: into a buffer, and tap by tap.
+use buffered::half_band::halfband_taps;
 use expect::answers::nan;
 use expect::answers::near;
 use expect::answers::none;
@@ -10,7 +11,6 @@ use expect::tell::Counts;
 use expect::tell::example;
 use halfband::HalfbandDesign;
 use halfband::HalfbandDesigned;
-use halfband::halfband_taps;
 use kaiser::beta::kaiser_beta;
 use refusal::Refusal;
 

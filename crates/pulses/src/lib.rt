@@ -1,3 +1,2 @@
 // Pulse shapes: filters that make a symbol's samples.
-pub mod gaussian;
 pub mod gaussian_design;

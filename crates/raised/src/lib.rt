@@ -1,3 +1,2 @@
 // The root-raised-cosine pulse.
 pub mod design;
-pub mod fill;

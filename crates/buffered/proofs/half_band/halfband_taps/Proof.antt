@@ -1,4 +1,4 @@
--- `halfband::halfband_taps` meets its contract: it fills a tap at a time, which agrees with the definition's buffer. The loop's invariant: the taps so far stand at the front. Assumes nothing.
+-- `buffered::half_band::halfband_taps` meets its contract: it fills a tap at a time, which agrees with the definition's buffer. The loop's invariant: the taps so far stand at the front. Assumes nothing.
 use mathlib.Core.Path.{_≡_, refl, sym, ap, _∙_}
 use Prim.Native.Nat.{_≤_, _-_}
 use native.Mathlib.Omega.{arith}
@@ -6,10 +6,10 @@ use borrow.Author.Needs.{needs, scaled-fits}
 use lib.ListN.{length}
 use lib.Ieee.{Float}
 use Rattle.laws.specs.Filled.{tabulate, filled, fill-none, fill-more, fill-all, length-filled}
 use Rattle.halfband.specs.Halfband.{tapWith, tapOf}
-use Rattle.halfband.specs.Agree.{fills, leaves}
-use Rattle.halfband.proofs.halfband_taps.Statement.{statement}
-use Rattle.halfband.proofs.halfband_taps.Tie as tie
+use Rattle.buffered.specs.Agree.{fills, leaves}
+use Rattle.buffered.proofs.half_band.halfband_taps.Statement.{statement}
+use Rattle.buffered.proofs.half_band.halfband_taps.Tie as tie
 
 abbrev Inv-loop : tie.InvT-loop
 Inv-loop beta taps₀ n d none i0 k₀ taps k = (k ≤ length taps₀) × (taps ≡ filled k (tapWith d i0) taps₀)

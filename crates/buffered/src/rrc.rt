@@ -1,10 +1,10 @@
 // The root-raised-cosine pulse into a buffer.
-use super::design::RrcDesigned;
-use super::design::fitted;
 use fir::lowpass::Filled;
+use raised::design::RrcDesigned;
+use raised::design::fitted;
 ghost use lib.ListN.{length};
 ghost use Rattle.fir.specs.Outcome.{Fills};
 ghost use Rattle.raised.specs.Rrc.{rrcOf, fittedOf, outcomeOf};
 
 // Fills the buffer, which must have span sps + 1 elements, with a pulse of unit energy; refused as `fitted`, with the buffer as it came. Example: roll-off 0.5, 8 samples and a span of 8 make 65 taps.
 pub fn rrc(rolloff: f64, sps: u64, span: u64, taps: &mut [f64]) -> Filled

@@ -1,9 +1,9 @@
 // The Gaussian pulse into a buffer.
-use super::gaussian_design::GaussianDesigned;
-use super::gaussian_design::fitted;
 use fir::lowpass::Filled;
+use pulses::gaussian_design::GaussianDesigned;
+use pulses::gaussian_design::fitted;
 ghost use lib.ListN.{length};
 ghost use Rattle.pulses.specs.Gaussian.{gaussianOf, fittedOf, outcomeOf};
 ghost use Rattle.fir.specs.Outcome.{Fills};
 
 // Fills the buffer, which must have span sps + 1 elements; refused as `fitted`, with the buffer as it came. Example: bt 0.5, 8 samples and a span of 4 make 33 taps.
