@@ -5,7 +5,7 @@ STRICT = -std=c11 -Wall -Wextra -Werror -Iinclude
 CHECKED = -g -O1 -fsanitize=address,undefined -fno-sanitize-recover=all
 LIB = target/lib/libpeldozkar.a
 # The crates with exports: each makes one object, and the library holds them all.
-EXPORTS = border border_numbers border_formats border_sections border_windows
+EXPORTS = border border_kinds border_numbers border_formats border_sections border_windows
 DESIGN = tools/design.c tools/kinds.c tools/forms.c tools/words.c tools/help.c tools/files.c tools/picture.c tools/plot.c tools/response.c
 # Where `make install` puts things, below DESTDIR if that is said, and the version that pkg-config tells.
 PREFIX ?= /usr/local

@@ -18,13 +18,6 @@ use Rattle.fir.specs.declared.spec.DesignSpec.{DesignSpec}
 use Rattle.fir.specs.Outcome.{Outcome, Made, Turned}
 use Rattle.fir.specs.Lowpass.{inside, countTaken, betaTaken, usable, divisorOf, lowpassOf, outcomeOf}
 use Rattle.fir.specs.Spec.{designIn, specOrderOf, specDesignOf}
-use Rattle.halfband.specs.Halfband as Halfband
-use Rattle.pulses.specs.Gaussian as Gaussian
-use Rattle.pulses.specs.declared.gaussian_design.GaussianDesigned.{GaussianDesigned}
-use Rattle.pulses.specs.declared.gaussian_design.GaussianDesigned.the-variants as GaussianDesigned
-use Rattle.raised.specs.Rrc as Rrc
-use Rattle.raised.specs.declared.design.RrcDesigned.{RrcDesigned}
-use Rattle.raised.specs.declared.design.RrcDesigned.the-variants as RrcDesigned
 use Rattle.channelizer.specs.Channelizer as Channelizer
 use Rattle.border.specs.Sources.{Room}
 
@@ -39,11 +32,11 @@ room len whole (Turned why) e = tt
 
 -- one of two answers d, by a test
 module _ {D : Type 0} (of : D → Outcome) (n : ℕ) (x y : D) where
-  either-way : (b : Bool) → Counted n (of x) → Counted n (of y) → Counted n (of (cond b x y))
+  pub either-way : (b : Bool) → Counted n (of x) → Counted n (of y) → Counted n (of (cond b x y))
   either-way true p q = p
   either-way false p q = q
 
-  where-equal : (a c : ℕ) → (a ≡ c → Counted n (of x)) → Counted n (of y) → Counted n (of (cond (eqb a c) x y))
+  pub where-equal : (a c : ℕ) → (a ≡ c → Counted n (of x)) → Counted n (of y) → Counted n (of (cond (eqb a c) x y))
   where-equal a c p q = go (eqb a c) (eqb-true a c)
     where
       go : (b : Bool) → (b ≡ true → a ≡ c) → Counted n (of (cond b x y))
@@ -66,24 +59,7 @@ pub spec-count : (spec : DesignSpec) (rate : Float) (max len : ℕ) → Counted 
 unfolding specDesignOf
 spec-count spec rate max len = in-order spec rate len (specOrderOf spec rate max)
 
--- ---- the half-band
-in-halfband : (n : ℕ) (d : Designed) → Counted n (Halfband.outcomeOf (Halfband.halfbandIn n d))
-in-halfband n (Designed.Ready l) = either-way Halfband.outcomeOf n _ _ (usable (Halfband.divisorOf l n)) refl tt
-in-halfband n (Designed.Refused why) = tt
-
-pub halfband-count : (beta : Float) (n : ℕ) → Counted n (Halfband.outcomeOf (Halfband.halfbandOf beta n))
-unfolding Halfband.halfbandOf
-halfband-count beta n = either-way Halfband.outcomeOf n _ _ (Halfband.lengthTaken n) (in-halfband n (Halfband.quarterOf beta n)) tt
-
--- ---- the pulses and the channelizer's prototype, for a buffer of len elements
-pub gaussian-count : (d : GaussianDesigned) (len : ℕ) → Counted len (Gaussian.outcomeOf (Gaussian.fittedOf d len))
-gaussian-count (GaussianDesigned.Ready g) len = where-equal Gaussian.outcomeOf len _ _ (g .n) len (λ e. e) tt
-gaussian-count (GaussianDesigned.Refused why) len = tt
-
-pub rrc-count : (d : RrcDesigned) (len : ℕ) → Counted len (Rrc.outcomeOf (Rrc.fittedOf d len))
-rrc-count (RrcDesigned.Ready r) len = where-equal Rrc.outcomeOf len _ _ (r .n) len (λ e. e) tt
-rrc-count (RrcDesigned.Refused why) len = tt
-
+-- ---- the channelizer's prototype, for a buffer of len elements
 pub channelizer-count : (d : Designed) (len : ℕ) → Counted len (outcomeOf (Channelizer.fittedOf d len))
 channelizer-count (Designed.Ready l) len = where-equal outcomeOf len _ _ (l .n) len (λ e. e) tt
 channelizer-count (Designed.Refused why) len = tt

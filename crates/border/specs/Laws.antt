@@ -18,14 +18,9 @@ use Rattle.fir.specs.Lowpass as Lowpass
 use Rattle.fir.specs.Kept.{Prepares}
 use Rattle.fir.specs.declared.lowpass.Designed.{Designed}
 use Rattle.fir.specs.declared.lowpass.Prepared.{Prepared}
-use Rattle.halfband.specs.Halfband as Halfband
-use Rattle.halfband.specs.declared.HalfbandDesigned.{HalfbandDesigned}
-use Rattle.halfband.specs.declared.HalfbandPrepared.{HalfbandPrepared}
-use Rattle.pulses.specs.Gaussian as Gaussian
-use Rattle.pulses.specs.declared.gaussian_design.GaussianDesigned.{GaussianDesigned}
 use Rattle.border.specs.Reports.{outcomeReport}
 use Rattle.border.specs.Taps.{wholeTaps, written, Writes}
-use Rattle.border.specs.Sources.{Room, FitsLowpass, FitsHalfband, FitsGaussian}
+use Rattle.border.specs.Sources.{Room, FitsLowpass}
 
 -- ---- by the outcome alone
 module _ {o : Outcome} {before : List ℕ} {r : Report} where
@@ -62,9 +57,3 @@ module _ (len : ℕ) (o : Outcome) {before : List ℕ} {r : Report} where
 module _ (len : ℕ) {rs : List Float} where
   pub fits-lowpass : {d : Designed} {p : Prepared} → Prepares d p rs → Room len (Lowpass.outcomeOf d) → FitsLowpass p rs len
   fits-lowpass h m = record { normed = h .kept; raws = h .raws; room = subst (λ (z : Designed). Room len (Lowpass.outcomeOf z)) (sym (h .is)) m }
-
-  pub fits-halfband : {d : HalfbandDesigned} {p : HalfbandPrepared} → Halfband.Prepares d p rs → Room len (Halfband.outcomeOf d) → FitsHalfband p rs len
-  fits-halfband h m = record { normed = h .kept; raws = h .raws; room = subst (λ (z : HalfbandDesigned). Room len (Halfband.outcomeOf z)) (sym (h .is)) m }
-
-  pub fits-gaussian : {d r : GaussianDesigned} → Gaussian.Prepares d r rs → Room len (Gaussian.outcomeOf d) → FitsGaussian r rs len
-  fits-gaussian h m = record { raws = h .raws; room = subst (λ (z : GaussianDesigned). Room len (Gaussian.outcomeOf z)) (sym (h .is)) m }

@@ -1,40 +1,19 @@
--- What comes of a design by its kind, and what writing its taps needs: the series at its beta, the raw taps that were kept, and room. Definitions only.
+-- What comes of a low-pass, and what writing its taps needs: the series at its beta, the raw taps that were kept, and room. Definitions only.
 use Prim.Native.Nat.{ℕ, _*_}
 use mathlib.Core.Path.{_≡_}
 use mathlib.Core.List.{List}
 use lib.Ieee.{Float}
 use Rattle.fir.specs.Outcome.{Outcome, Made, Turned}
-use Rattle.fir.specs.Windows.{normOf}
 use Rattle.fir.specs.Lowpass as Lowpass
 use Rattle.fir.specs.Kept.{Keeps, Normed}
 use Rattle.fir.specs.declared.lowpass.Lowpass.{Lowpass}
 use Rattle.fir.specs.declared.lowpass.Designed.{Designed}
 use Rattle.fir.specs.declared.lowpass.Designed.the-variants as Designed
 use Rattle.fir.specs.declared.lowpass.Prepared.{Prepared}
-use Rattle.halfband.specs.Halfband as Halfband
-use Rattle.halfband.specs.declared.HalfbandDesign.{HalfbandDesign}
-use Rattle.halfband.specs.declared.HalfbandDesigned.{HalfbandDesigned}
-use Rattle.halfband.specs.declared.HalfbandDesigned.the-variants as HalfbandDesigned
-use Rattle.halfband.specs.declared.HalfbandPrepared.{HalfbandPrepared}
-use Rattle.pulses.specs.Gaussian as Gaussian
-use Rattle.pulses.specs.declared.gaussian_design.Gaussian.{Gaussian}
-use Rattle.pulses.specs.declared.gaussian_design.GaussianDesigned.{GaussianDesigned}
-use Rattle.pulses.specs.declared.gaussian_design.GaussianDesigned.the-variants as GaussianDesigned
-use Rattle.raised.specs.Rrc as Rrc
-use Rattle.raised.specs.declared.design.RrcDesigned.{RrcDesigned}
 
--- what comes of a ticket, by kind
+-- what comes of a ticket
 abbrev pub ofLowpass : Designed → Outcome
 ofLowpass d = Lowpass.outcomeOf d
-
-abbrev pub ofHalfband : HalfbandDesigned → Outcome
-ofHalfband d = Halfband.outcomeOf d
-
-abbrev pub ofGaussian : GaussianDesigned → Outcome
-ofGaussian d = Gaussian.outcomeOf d
-
-abbrev pub ofRrc : RrcDesigned → Outcome
-ofRrc d = Rrc.outcomeOf d
 
 -- what comes of a design that is as long as a buffer of len bytes
 abbrev pub Room : ℕ → Outcome → Type 0
@@ -46,12 +25,3 @@ pub record FitsLowpass (p : Prepared) (rs : List Float) (len : ℕ) : Type 0 whe
   pub normed : Normed p
   pub raws : (l : Lowpass) → p .designed ≡ Designed.Ready l → Keeps l (p .i0) rs
   pub room : Room len (ofLowpass (p .designed))
-
-pub record FitsHalfband (p : HalfbandPrepared) (rs : List Float) (len : ℕ) : Type 0 where
-  pub normed : (d : HalfbandDesign) → p .designed ≡ HalfbandDesigned.Ready d → p .i0 ≡ normOf (d .lp .window)
-  pub raws : (d : HalfbandDesign) → p .designed ≡ HalfbandDesigned.Ready d → Keeps (d .lp) (p .i0) rs
-  pub room : Room len (ofHalfband (p .designed))
-
-pub record FitsGaussian (d : GaussianDesigned) (rs : List Float) (len : ℕ) : Type 0 where
-  pub raws : (g : Gaussian) → d ≡ GaussianDesigned.Ready g → Gaussian.Keeps g rs
-  pub room : Room len (ofGaussian d)

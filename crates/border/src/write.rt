@@ -1,19 +1,15 @@
-// A design's taps in a buffer that it fits, and the report of it; a refusal told.
+// A low-pass's taps in a buffer that it fits, and the report of it; a refusal told.
 use fir::lowpass::Designed;
 use fir::lowpass::Prepared;
-use halfband::HalfbandDesigned;
-use halfband::HalfbandPrepared;
-use pulses::gaussian_design::GaussianDesigned;
-use raised::design::RrcDesigned;
 use refusal::Report;
 use taps::Source;
 use taps::put_taps;
 ghost use lib.ListN.{length};
 ghost use Rattle.border.specs.Taps.{Writes};
-ghost use Rattle.border.specs.Sources.{ofLowpass, ofHalfband, ofGaussian, ofRrc, FitsLowpass, FitsHalfband, FitsGaussian, Room};
+ghost use Rattle.border.specs.Sources.{ofLowpass, FitsLowpass};
 
 // How many raw taps an export keeps while it designs, so that each is worked out once: 8 kilobytes.
-pub(crate) const KEPT: usize = 1024;
+pub const KEPT: usize = 1024;
 
 // Writes the taps of a low-pass that the buffer fits, and tells their number and their divisor; tells a refusal, and leaves the buffer.
 pub(crate) fn write_lowpass(p: Prepared, raws: &[f64], out: &mut [u8]) -> Report
@@ -27,49 +23,5 @@ pub(crate) fn write_lowpass(p: Prepared, raws: &[f64], out: &mut [u8]) -> Report
             refusal::accepted(lp.n, lp.sum)
         }
         Designed::Refused(why) => refusal::refused(why),
-    }
-}
-
-// The same of a half-band.
-pub(crate) fn write_halfband(p: HalfbandPrepared, raws: &[f64], out: &mut [u8]) -> Report
-    requires { ⌜ FitsHalfband p (now raws) (length (now out)) ⌝ }
-    ensures { λ r. ⌜ Writes (ofHalfband (p .designed)) (now (out .entry)) r (now (out .exit)) ⌝ }
-{
-    let designed = p.designed;
-    match designed {
-        HalfbandDesigned::Ready(d) => {
-            put_taps(Source::Halfband(d, p.i0), raws, &mut *out);
-            refusal::accepted(d.n, d.sum)
-        }
-        HalfbandDesigned::Refused(why) => refusal::refused(why),
-    }
-}
-
-// The same of a Gaussian.
-pub(crate) fn write_gaussian(designed: GaussianDesigned, raws: &[f64], out: &mut [u8]) -> Report
-    requires { ⌜ FitsGaussian designed (now raws) (length (now out)) ⌝ }
-    ensures { λ r. ⌜ Writes (ofGaussian designed) (now (out .entry)) r (now (out .exit)) ⌝ }
-{
-    match designed {
-        GaussianDesigned::Ready(g) => {
-            put_taps(Source::Gaussian(g), raws, &mut *out);
-            refusal::accepted(g.n, g.sum)
-        }
-        GaussianDesigned::Refused(why) => refusal::refused(why),
-    }
-}
-
-// The same of a root-raised cosine, of which no raw tap is kept.
-pub(crate) fn write_rrc(designed: RrcDesigned, out: &mut [u8]) -> Report
-    requires { ⌜ Room (length (now out)) (ofRrc designed) ⌝ }
-    ensures { λ r. ⌜ Writes (ofRrc designed) (now (out .entry)) r (now (out .exit)) ⌝ }
-{
-    match designed {
-        RrcDesigned::Ready(d) => {
-            let none = [0.0f64; 0];
-            put_taps(Source::Rrc(d), &none, &mut *out);
-            refusal::accepted(d.n, d.norm)
-        }
-        RrcDesigned::Refused(why) => refusal::refused(why),
     }
 }

@@ -1,6 +1,6 @@
 // Kinds 32, 33 and 38: a pulse's length and design, and one Q14 number. A line has the arguments of an export and its report.
-use border::cosine::pel_rrc_len;
-use border::cosine::pel_rrc_new;
+use border_kinds::cosine::pel_rrc_len;
+use border_kinds::cosine::pel_rrc_new;
 use border_numbers::single::pel_q14_from_f64;
 use listed::line::WORDS;
 use listed::pattern::float_at;

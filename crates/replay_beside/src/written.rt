@@ -1,6 +1,6 @@
 // Kinds 34 to 37 and 42 to 47: pulses, sections and windows that are written to a buffer, whose length in bytes is the last argument.
 ghost use Prim.Native.Nat.{_≤_};
-use border::cosine::pel_rrc;
+use border_kinds::cosine::pel_rrc;
 use border_sections::cascade::pel_butterworth_sos;
 use border_sections::section::pel_biquad_coefs;
 use border_sections::section::pel_preemphasis_coefs;

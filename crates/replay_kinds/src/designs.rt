@@ -1,10 +1,10 @@
 // Kinds 21 to 28: the half-band, the Gaussian pulse and the channelizer. A line has the arguments of an export and its report; those that write to a buffer are judged apart.
 use crate::written;
-use border::halfbands::pel_halfband_new;
 use border::prototype::pel_channelizer_lowpass;
 use border::prototype::pel_channelizer_taps;
 use border::prototype::pel_channelizer_taps_per_branch;
-use border::pulse::pel_gaussian_new;
+use border_kinds::halfbands::pel_halfband_new;
+use border_kinds::pulse::pel_gaussian_new;
 use listed::line::WORDS;
 use listed::pattern::float_at;
 use listed::tally;

@@ -1,8 +1,8 @@
 // Kinds 22, 24 and 28: the designs that are written to a buffer, whose length in bytes is the last argument.
 ghost use Prim.Native.Nat.{_≤_};
-use border::halfbands::pel_halfband;
 use border::prototype::pel_channelizer_prototype;
-use border::pulse::pel_gaussian;
+use border_kinds::halfbands::pel_halfband;
+use border_kinds::pulse::pel_gaussian;
 use listed::lent;
 use listed::line::WORDS;
 use listed::pattern::float_at;

@@ -1,10 +1,10 @@
--- `border::write::write_rrc` meets its contract, a design and a refusal. Assumes nothing.
+-- `border_kinds::write::write_rrc` meets its contract, a design and a refusal. Assumes nothing.
 use mathlib.Core.Path.{ap}
-use Rattle.border.specs.Sources.{ofRrc}
+use Rattle.border_kinds.specs.Sources.{ofRrc}
 use Rattle.border.specs.Laws.{leaves, fills-room}
 use borrow.Author.Needs.{needs}
-use Rattle.border.proofs.write.write_rrc.Statement.{statement}
-use Rattle.border.proofs.write.write_rrc.Tie as tie
+use Rattle.border_kinds.proofs.write.write_rrc.Statement.{statement}
+use Rattle.border_kinds.proofs.write.write_rrc.Tie as tie
 
 enum-known-designed : tie.Need-enum-known-designed
 enum-known-designed c = search needs

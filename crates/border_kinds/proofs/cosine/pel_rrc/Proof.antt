@@ -1,16 +1,17 @@
--- `border::cosine::pel_rrc` meets its contract: the length, and then what `fitted` answers. Assumes nothing.
+-- `border_kinds::cosine::pel_rrc` meets its contract: the length, and then what `fitted` answers. Assumes nothing.
 use mathlib.Core.Path.{ap, sym, subst}
 use Prim.Native.Nat.{ℕ, _/_}
 use lib.ListN.{length}
 use Rattle.fir.specs.Outcome.{Outcome}
 use Rattle.raised.specs.Rrc.{rrcOf, fittedOf, outcomeOf}
 use Rattle.raised.specs.declared.design.RrcDesigned.{RrcDesigned}
 use Rattle.border.specs.Sources.{Room}
-use Rattle.border.specs.Counts.{rrc-count, room}
+use Rattle.border.specs.Counts.{room}
+use Rattle.border_kinds.specs.Counts.{rrc-count}
 use Rattle.border.specs.Laws.{leaves-part, writes-whole}
 use borrow.Author.Needs.{needs}
-use Rattle.border.proofs.cosine.pel_rrc.Statement.{statement}
-use Rattle.border.proofs.cosine.pel_rrc.Tie as tie
+use Rattle.border_kinds.proofs.cosine.pel_rrc.Statement.{statement}
+use Rattle.border_kinds.proofs.cosine.pel_rrc.Tie as tie
 
 -- the buffer's length, and what comes of the ticket for it
 abbrev len : tie.Start → ℕ

@@ -1,10 +1,10 @@
--- `border::write::write_gaussian` meets its contract, a design and a refusal. Assumes nothing.
+-- `border_kinds::write::write_gaussian` meets its contract, a design and a refusal. Assumes nothing.
 use mathlib.Core.Path.{ap}
-use Rattle.border.specs.Sources.{ofGaussian}
+use Rattle.border_kinds.specs.Sources.{ofGaussian}
 use Rattle.border.specs.Laws.{leaves, fills-room}
 use borrow.Author.Needs.{needs}
-use Rattle.border.proofs.write.write_gaussian.Statement.{statement}
-use Rattle.border.proofs.write.write_gaussian.Tie as tie
+use Rattle.border_kinds.proofs.write.write_gaussian.Statement.{statement}
+use Rattle.border_kinds.proofs.write.write_gaussian.Tie as tie
 
 enum-known-designed : tie.Need-enum-known-designed
 enum-known-designed c = search needs

@@ -1,15 +1,15 @@
--- `border::halfbands::pel_halfband_new` meets its contract, a design and a refusal. Assumes nothing.
+-- `border_kinds::pulse::pel_gaussian_new` meets its contract, a design and a refusal. Assumes nothing.
 use mathlib.Core.Path.{sym, ap, _∙_}
 use borrow.Author.Needs.{needs}
 use Rattle.refusal.specs.declared.Report.{Report}
-use Rattle.halfband.specs.declared.HalfbandDesigned.{HalfbandDesigned}
+use Rattle.pulses.specs.declared.gaussian_design.GaussianDesigned.{GaussianDesigned}
 use Rattle.border.specs.Reports.{outcomeReport}
-use Rattle.border.specs.Sources.{ofHalfband}
-use Rattle.border.proofs.halfbands.pel_halfband_new.Statement.{statement}
-use Rattle.border.proofs.halfbands.pel_halfband_new.Tie as tie
+use Rattle.border_kinds.specs.Sources.{ofGaussian}
+use Rattle.border_kinds.proofs.pulse.pel_gaussian_new.Statement.{statement}
+use Rattle.border_kinds.proofs.pulse.pel_gaussian_new.Tie as tie
 
-abbrev told : HalfbandDesigned → Report
-told d = outcomeReport (ofHalfband d)
+abbrev told : GaussianDesigned → Report
+told d = outcomeReport (ofGaussian d)
 
 new-requires : tie.Need-new-requires
 new-requires c κs = search needs
@@ -32,8 +32,8 @@ returns c = c .accepted .ensures ∙ ap told (sym (c .before .before .designed .
 returns-2 : tie.Need-returns-2
 returns-2 c = c .refused .ensures ∙ ap told (sym (c .before .before .designed2 .given .1) ∙ c .before .before .before .before .new .ensures)
 
-pub pel-halfband-new-spec : {M : Type 1} → statement M
-pel-halfband-new-spec =
+pub pel-gaussian-new-spec : {M : Type 1} → statement M
+pel-gaussian-new-spec =
     tie.close
     (tie.spec
     new-requires

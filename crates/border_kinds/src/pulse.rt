@@ -1,6 +1,6 @@
 // The Gaussian pulse, as exports: the design judged, and its taps in a buffer.
-use super::write::KEPT;
 use super::write::write_gaussian;
+use border::write::KEPT;
 use pulses::gaussian_design::Gaussian;
 use pulses::gaussian_design::GaussianDesigned;
 use refusal::Refusal;

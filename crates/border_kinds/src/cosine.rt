@@ -1,6 +1,6 @@
 // The root-raised-cosine pulse, as exports: how many taps, the design judged, and its taps in a buffer.
-use super::told::told_length;
 use super::write::write_rrc;
+use border::told::told_length;
 use raised::design::Rrc;
 use raised::design::RrcDesigned;
 use refusal::Refusal;

@@ -1,15 +1,17 @@
--- `border::pulse::pel_gaussian` meets its contract: the length, and then what `fitted` answers. Assumes nothing.
+-- `border_kinds::pulse::pel_gaussian` meets its contract: the length, and then what `fitted` answers. Assumes nothing.
 use mathlib.Core.Path.{ap}
 use Prim.Native.Nat.{ℕ, _/_}
 use lib.ListN.{length}
 use Rattle.fir.specs.Outcome.{Outcome}
 use Rattle.pulses.specs.Gaussian.{gaussianOf, fittedOf, outcomeOf}
 use Rattle.pulses.specs.declared.gaussian_design.GaussianDesigned.{GaussianDesigned}
-use Rattle.border.specs.Counts.{gaussian-count, room}
-use Rattle.border.specs.Laws.{leaves-part, fits-gaussian, writes-whole}
+use Rattle.border.specs.Counts.{room}
+use Rattle.border_kinds.specs.Counts.{gaussian-count}
+use Rattle.border.specs.Laws.{leaves-part, writes-whole}
+use Rattle.border_kinds.specs.Laws.{fits-gaussian}
 use borrow.Author.Needs.{needs}
-use Rattle.border.proofs.pulse.pel_gaussian.Statement.{statement}
-use Rattle.border.proofs.pulse.pel_gaussian.Tie as tie
+use Rattle.border_kinds.proofs.pulse.pel_gaussian.Statement.{statement}
+use Rattle.border_kinds.proofs.pulse.pel_gaussian.Tie as tie
 
 -- the buffer's length, and what comes of the ticket for it
 abbrev len : tie.Start → ℕ

@@ -1,12 +1,12 @@
--- `border::cosine::pel_rrc_new` meets its contract, a design and a refusal. Assumes nothing.
+-- `border_kinds::cosine::pel_rrc_new` meets its contract, a design and a refusal. Assumes nothing.
 use mathlib.Core.Path.{sym, ap, _∙_}
 use borrow.Author.Needs.{needs}
 use Rattle.refusal.specs.declared.Report.{Report}
 use Rattle.raised.specs.declared.design.RrcDesigned.{RrcDesigned}
 use Rattle.border.specs.Reports.{outcomeReport}
-use Rattle.border.specs.Sources.{ofRrc}
-use Rattle.border.proofs.cosine.pel_rrc_new.Statement.{statement}
-use Rattle.border.proofs.cosine.pel_rrc_new.Tie as tie
+use Rattle.border_kinds.specs.Sources.{ofRrc}
+use Rattle.border_kinds.proofs.cosine.pel_rrc_new.Statement.{statement}
+use Rattle.border_kinds.proofs.cosine.pel_rrc_new.Tie as tie
 
 abbrev told : RrcDesigned → Report
 told d = outcomeReport (ofRrc d)

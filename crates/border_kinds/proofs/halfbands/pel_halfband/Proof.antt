@@ -1,14 +1,16 @@
--- `border::halfbands::pel_halfband` meets its contract: the length, and then what `prepare` answers. Assumes nothing.
+-- `border_kinds::halfbands::pel_halfband` meets its contract: the length, and then what `prepare` answers. Assumes nothing.
 use mathlib.Core.Path.{ap}
 use Prim.Native.Nat.{ℕ, _/_}
 use lib.ListN.{length}
 use Rattle.fir.specs.Outcome.{Outcome}
 use Rattle.halfband.specs.Halfband.{halfbandOf, outcomeOf}
-use Rattle.border.specs.Counts.{halfband-count, room}
-use Rattle.border.specs.Laws.{leaves-part, fits-halfband, writes-whole}
+use Rattle.border.specs.Counts.{room}
+use Rattle.border_kinds.specs.Counts.{halfband-count}
+use Rattle.border.specs.Laws.{leaves-part, writes-whole}
+use Rattle.border_kinds.specs.Laws.{fits-halfband}
 use borrow.Author.Needs.{needs}
-use Rattle.border.proofs.halfbands.pel_halfband.Statement.{statement}
-use Rattle.border.proofs.halfbands.pel_halfband.Tie as tie
+use Rattle.border_kinds.proofs.halfbands.pel_halfband.Statement.{statement}
+use Rattle.border_kinds.proofs.halfbands.pel_halfband.Tie as tie
 
 -- the buffer's length, and what comes of the ticket for it
 abbrev len : tie.Start → ℕ

@@ -1,9 +1,9 @@
--- `border::cosine::pel_rrc_len` meets its contract. Assumes nothing.
+-- `border_kinds::cosine::pel_rrc_len` meets its contract. Assumes nothing.
 use mathlib.Core.Path.{ap, _∙_}
 use Rattle.border.specs.Reports.{lengthReport}
 use borrow.Author.Needs.{needs}
-use Rattle.border.proofs.cosine.pel_rrc_len.Statement.{statement}
-use Rattle.border.proofs.cosine.pel_rrc_len.Tie as tie
+use Rattle.border_kinds.proofs.cosine.pel_rrc_len.Statement.{statement}
+use Rattle.border_kinds.proofs.cosine.pel_rrc_len.Tie as tie
 
 rrc-len-requires : tie.Need-rrc-len-requires
 rrc-len-requires c κs = search needs

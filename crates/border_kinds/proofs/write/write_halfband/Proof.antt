@@ -1,4 +1,4 @@
--- `border::write::write_halfband` meets its contract, a design and a refusal. Assumes nothing.
+-- `border_kinds::write::write_halfband` meets its contract, a design and a refusal. Assumes nothing.
 use mathlib.Core.Path.{ap, _∙_}
 use Prim.Native.Nat.{_/_}
 use lib.ListN.{length}
@@ -6,11 +6,11 @@ use lib.Ieee.{Float}
 use Rattle.laws.specs.Chunks.{chunked}
 use Rattle.packed.specs.Bytes.{floatBytes}
 use Rattle.halfband.specs.Halfband.{tapWith, tapOf}
-use Rattle.border.specs.Sources.{ofHalfband}
+use Rattle.border_kinds.specs.Sources.{ofHalfband}
 use Rattle.border.specs.Laws.{leaves, fills-room}
 use borrow.Author.Needs.{needs}
-use Rattle.border.proofs.write.write_halfband.Statement.{statement}
-use Rattle.border.proofs.write.write_halfband.Tie as tie
+use Rattle.border_kinds.proofs.write.write_halfband.Statement.{statement}
+use Rattle.border_kinds.proofs.write.write_halfband.Tie as tie
 
 enum-known-designed : tie.Need-enum-known-designed
 enum-known-designed c = search needs
