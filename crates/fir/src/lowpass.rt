@@ -1,6 +1,6 @@
 // The windowed-sinc low-pass: judged first, then its taps one at a time or into a buffer.
 use super::window::Window;
-use super::window::argument_of;
+use super::window::arguments_of;
 use super::window::norm;
 use super::window::place_at;
 use super::window::value_at;
@@ -93,25 +93,25 @@ fn take(sum: f64, i: u64, v: f64, raws: &mut [f64]) -> f64
     sum + v
 }
 
-// The sum of the raw taps, by rising index from +0. As many of them as `raws` has places are kept there, so that they needn't be worked out again. The taps are taken two at a time, since two of Kaiser's series cost little more than one. What else they need, and the arguments of the next two, stands before the series: where these end is a branch that a processor foretells wrongly, and only what comes before it is worked out alongside.
+// The sum of the raw taps, by rising index from +0. As many of them as `raws` has places are kept there, so that they needn't be worked out again. The taps are taken two at a time, since two of Kaiser's roots or series cost little more than one. What else they need, and the arguments of the next two, stands before the series: where these end is a branch that a processor foretells wrongly, and only what comes before it is worked out alongside.
 fn total(fc: f64, w: Window, i0: f64, n: u64, raws: &mut [f64]) -> f64
     requires { ⌜ 0 < n ⌝ ∗ ⌜ n ≤ 2 ^ 24 ⌝ }
     ensures { λ r. ⌜ Totals (rawAt fc w i0 n) n r (now (raws .exit)) ⌝ }
 {
-    let mut x = argument_of(w, place_at(w, n, 0));
-    let mut y = argument_of(w, place_at(w, n, 1));
+    let begun = arguments_of(w, place_at(w, n, 0), place_at(w, n, 1));
+    let mut x = begun.first;
+    let mut y = begun.second;
     let mut sum = 0.0;
     let mut i = 0u64;
     while i + 1 < n {
-        let next = argument_of(w, place_at(w, n, i + 2));
-        let after = argument_of(w, place_at(w, n, i + 3));
+        let next = arguments_of(w, place_at(w, n, i + 2), place_at(w, n, i + 3));
         let a = ideal_at(fc, n, i);
         let b = ideal_at(fc, n, i + 1);
         let two = values_of(w, i0, x, y);
         sum = take(sum, i, a * two.first, &mut *raws);
         sum = take(sum, i + 1, b * two.second, &mut *raws);
-        x = next;
-        y = after;
+        x = next.first;
+        y = next.second;
         i += 2;
     }
     if i < n {

@@ -45,6 +45,17 @@ pub fn kaiser_argument(beta: f64, radicand: f64) -> f64
     beta * root::sqrt::sqrt(radicand)
 }
 
+// The same for two of them, whose roots are worked out together.
+pub fn kaiser_arguments(beta: f64, radicand: f64, other: f64) -> Pair
+    ensures { λ r. ⌜ r .first ≡ kaiserArgument beta radicand ⌝ ∗ ⌜ r .second ≡ kaiserArgument beta other ⌝ }
+{
+    let roots = root::pair::sqrt_pair(radicand, other);
+    Pair {
+        first: beta * roots.first,
+        second: beta * roots.second,
+    }
+}
+
 // I0(x) / i0: Kaiser's window, by what its series is taken at.
 pub fn kaiser_value(i0: f64, x: f64) -> f64
     ensures { λ r. ⌜ r ≡ kaiserValue i0 x ⌝ }
@@ -88,6 +99,19 @@ pub(crate) fn argument_of(w: Window, place: f64) -> f64
         Window::Hamming => place,
         Window::Blackman => place,
         Window::Kaiser(beta) => kaiser_argument(beta, place),
+    }
+}
+
+// The arguments of two taps.
+pub(crate) fn arguments_of(w: Window, place: f64, other: f64) -> Pair
+    ensures { λ r. ⌜ r .first ≡ argumentOf w place ⌝ ∗ ⌜ r .second ≡ argumentOf w other ⌝ }
+{
+    match w {
+        Window::Kaiser(beta) => kaiser_arguments(beta, place, other),
+        _ => Pair {
+            first: argument_of(w, place),
+            second: argument_of(w, other),
+        },
     }
 }
 

@@ -25,20 +25,32 @@ pub record Normal (X m g : ℕ) : Type 0 where
   pub low : 972 ≤ g
   pub high : g ≤ 1024
 
+-- g is even, and m has 53 or 54 digits
+pub record Even (m g : ℕ) : Type 0 where
+  pub least : 2 ^ 52 ≤ m
+  pub most : m < 2 ^ 54
+  pub twice : g % 2 ≡ 0
+  pub low : 972 ≤ g
+  pub high : g ≤ 3069
+
+-- n * 2 ^ h stands for what m * 2 ^ g stands for, with an even h
+pub record Evened (m g n h : ℕ) : Type 0 where
+  pub stands : (X : ℕ) → Stands X m g → Stands X n h
+  pub even : Even n h
+
 -- ---- the pattern
-pub finished : (m g r : ℕ) → 2 ^ 52 ≤ m → m < 2 ^ 54 → g % 2 ≡ 0 → 972 ≤ g → g ≤ 3069 → HalfRoot m r
-    → Finished m g ((g / 2 - 1) * 2 ^ 52 + r)
-finished m g r a b e c d R = record {
+pub finished : (m g r : ℕ) → Even m g → HalfRoot m r → Finished m g ((g / 2 - 1) * 2 ^ 52 + r)
+finished m g r v R = record {
   root-of = λ X s. record {
     m = m;
     h = g / 2;
     q = R .q;
-    scaled = ap (λ (z : ℕ). m * 2 ^ z) (even g e) ∙ s .same;
-    least = a;
-    most = b;
+    scaled = ap (λ (z : ℕ). m * 2 ^ z) (even g (v .twice)) ∙ s .same;
+    least = v .least;
+    most = v .most;
     root = R .root;
-    above = omega arith;
-    below = omega arith;
+    above = omega (arith, v .low);
+    below = omega (arith, v .high);
     made = ap (λ (z : ℕ). (g / 2 - 1) * 2 ^ 52 + z) (R .half);
   };
 }
@@ -70,11 +82,21 @@ doubled {X} {m} {g} h s = record {
     back : (g : ℕ) → 0 < g → suc (g - 1) ≡ g
     back g h = omega arith
 
-pub finished-same : {m g d k r : ℕ} → d ≡ m → k ≡ g → Finished d k r → Finished m g r
-finished-same e h f = rw (e, h) at f
+module _ {m g d k : ℕ} (l : 2 ^ 52 ≤ m) (u : m < 2 ^ 53) (low : 972 ≤ g) (high : g ≤ 3069) where
+  pub evened-same : d ≡ m → k ≡ g → g % 2 ≡ 0 → Evened m g d k
+  evened-same e h p = rw (e, h) (record { stands = λ X s. s; even = record { least = l; most = omega arith; twice = p; low = low; high = high } })
 
-pub finished-doubled : {m g d k r : ℕ} → d ≡ m * 2 → k ≡ g - 1 → 0 < g → Finished d k r → Finished m g r
-finished-doubled e h l f = let f' = rw (e, h) at f in record { root-of = λ X s. f' .root-of X (doubled l s) }
+  pub evened-doubled : d ≡ m * 2 → k ≡ g - 1 → g % 2 ≡ 1 → Evened m g d k
+  evened-doubled e h p =
+      rw (e, h)
+      (record {
+        stands = λ X s. doubled (omega arith) s;
+        even = record { least = omega arith; most = omega arith; twice = omega arith; low = omega arith; high = omega arith };
+      })
+
+-- the root of what was made even is the root of what it was made from
+pub finished-evened : {m g n h r : ℕ} → Evened m g n h → Finished n h r → Finished m g r
+finished-evened e f = record { root-of = λ X s. f .root-of X (e .stands X s) }
 
 -- ---- the loop that brings the leading digit of a subnormal value into place: after 1024 - k doublings
 pub record Scaling (X a k : ℕ) : Type 0 where

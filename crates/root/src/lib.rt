@@ -2,6 +2,7 @@
 mod digits;
 mod estimate;
 mod format;
+pub mod pair;
 mod rounded;
 mod settled;
 pub mod sqrt;

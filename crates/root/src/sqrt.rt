@@ -1,4 +1,5 @@
 // The square root, by the bit pattern of its operand.
+use crate::estimate::estimate;
 use crate::format::LEAD;
 use crate::rounded::rounded;
 ghost use mathlib.Core.Path.{_≡_};
@@ -6,12 +7,12 @@ ghost use Prim.Native.Nat.{_/_, _%_, _*_, _^_, _<_, _≤_};
 ghost use Rattle.root.specs.Sqrt.{sqrtOf};
 ghost use Rattle.root.specs.Patterns.{magOf};
 ghost use Rattle.root.specs.Nearest.{RootBits};
-ghost use Rattle.root.specs.Scaling.{Finished, Normal};
+ghost use Rattle.root.specs.Scaling.{Even, Evened, Finished, Normal};
 
 // A value as m * 2 ^ g, in parts of 2 ^ -1024 of the smallest f64.
-struct Scaled {
-    m: u64,
-    g: u64,
+pub(crate) struct Scaled {
+    pub m: u64,
+    pub g: u64,
 }
 
 // A subnormal value of d units, with the leading digit in the place that it has in the others.
@@ -28,23 +29,32 @@ fn normal(d: u64) -> Scaled
     Scaled { m: a, g: k }
 }
 
-// The pattern of the root of the value that m and an even g stand for. The root has half the exponent.
-fn pattern(m: u64, g: u64) -> u64
-    requires { ⌜ 2 ^ 52 ≤ m ⌝ ∗ ⌜ m < 2 ^ 54 ⌝ ∗ ⌜ g % 2 ≡ 0 ⌝ ∗ ⌜ 972 ≤ g ⌝ ∗ ⌜ g ≤ 3069 ⌝ }
+// The same value with an even g, and one digit more in m where that was odd. Chosen without a branch, which a processor could not foretell.
+pub(crate) fn evened(m: u64, g: u64) -> Scaled
+    requires { ⌜ 2 ^ 52 ≤ m ⌝ ∗ ⌜ m < 2 ^ 53 ⌝ ∗ ⌜ 972 ≤ g ⌝ ∗ ⌜ g ≤ 3069 ⌝ }
+    ensures { λ r. ⌜ Evened m g (r .m) (r .g) ⌝ }
+{
+    let odd = g % 2;
+    let d = if odd == 0 { m } else { m * 2 };
+    Scaled { m: d, g: g - odd }
+}
+
+// The pattern of the root of the value that m and an even g stand for, from a guess at the root of m. The root has half the exponent.
+pub(crate) fn pattern(m: u64, g: u64, guess: u64) -> u64
+    requires { ⌜ Even m g ⌝ ∗ ⌜ 2 ^ 52 ≤ guess ⌝ ∗ ⌜ guess < 2 ^ 53 ⌝ }
     ensures { λ r. ⌜ Finished m g r ⌝ }
 {
-    let r = rounded(m);
+    let r = rounded(m, guess);
     (g / 2 - 1) * LEAD + r
 }
 
-// The same where g may be odd, and m has one digit less. One call for both, so that the processor has no branch to foretell.
+// The same where g may be odd, and m has one digit less.
 fn finish(m: u64, g: u64) -> u64
     requires { ⌜ 2 ^ 52 ≤ m ⌝ ∗ ⌜ m < 2 ^ 53 ⌝ ∗ ⌜ 972 ≤ g ⌝ ∗ ⌜ g ≤ 3069 ⌝ }
     ensures { λ r. ⌜ Finished m g r ⌝ }
 {
-    let odd = g % 2;
-    let d = if odd == 0 { m } else { m * 2 };
-    pattern(d, g - odd)
+    let e = evened(m, g);
+    pattern(e.m, e.g, estimate(e.m))
 }
 
 // The pattern of the root of the finite value above 0 whose pattern is b.

@@ -56,21 +56,18 @@ abbrev μ-loop : tie.MeasureT-loop
 place-at-requires : tie.Need-place-at-requires Inv-loop μ-loop
 place-at-requires c κs = (omega arith, (omega arith, omega arith))
 
-argument-of-requires : tie.Need-argument-of-requires Inv-loop μ-loop
-argument-of-requires c κs = tt
-
 place-at-requires-2 : tie.Need-place-at-requires-2 Inv-loop μ-loop
 place-at-requires-2 c κs = (omega arith, (omega arith, omega arith))
 
-argument-of-requires-2 : tie.Need-argument-of-requires-2 Inv-loop μ-loop
-argument-of-requires-2 c κs = tt
+arguments-of-requires : tie.Need-arguments-of-requires Inv-loop μ-loop
+arguments-of-requires c κs = tt
 
 loop-holds : tie.Need-loop-holds Inv-loop μ-loop
 loop-holds c =
-    let a = c .before .before .before .before .before .args in (
+    let a = c .before .before .before .before .args in (
       record { within = omega arith; same = refl; totals = totals-none (rawAt (a .fc) (a .w) (a .i0) (a .n)) (a .raws .now) },
-      c .before .before .argument-of .ensures ∙ ap (λ (p : Float). argumentOf (a .w) p) (c .before .before .before .place-at .ensures),
-      c .argument-of2 .ensures ∙ ap (λ (p : Float). argumentOf (a .w) p) (c .before .place-at2 .ensures),
+      c .arguments-of .ensures .0 ∙ ap (λ (p : Float). argumentOf (a .w) p) (c .before .before .place-at .ensures),
+      c .arguments-of .ensures .1 ∙ ap (λ (p : Float). argumentOf (a .w) p) (c .before .place-at2 .ensures),
     )
 
 add-loop : tie.Need-add-loop Inv-loop μ-loop
@@ -82,17 +79,14 @@ add-place-at c = omega arith
 place-at-requires-3 : tie.Need-place-at-requires-3 Inv-loop μ-loop
 place-at-requires-3 c κs = (omega arith, (omega arith, omega arith))
 
-argument-of-requires-3 : tie.Need-argument-of-requires-3 Inv-loop μ-loop
-argument-of-requires-3 c κs = tt
-
 add-place-at-2 : tie.Need-add-place-at-2 Inv-loop μ-loop
 add-place-at-2 c = omega arith
 
 place-at-requires-4 : tie.Need-place-at-requires-4 Inv-loop μ-loop
 place-at-requires-4 c κs = (omega arith, (omega arith, omega arith))
 
-argument-of-requires-4 : tie.Need-argument-of-requires-4 Inv-loop μ-loop
-argument-of-requires-4 c κs = tt
+arguments-of-requires-2 : tie.Need-arguments-of-requires-2 Inv-loop μ-loop
+arguments-of-requires-2 c κs = tt
 
 ideal-at-requires : tie.Need-ideal-at-requires Inv-loop μ-loop
 ideal-at-requires c κs = (omega arith, omega arith)
@@ -111,8 +105,8 @@ take-requires c κs = tt
 
 add-take : tie.Need-add-take Inv-loop μ-loop
 add-take c =
-    let l = c .before .before .before .before .before .before .before .before .before .before .before .before .loop-test .taken in
-    let m = c .before .before .before .before .before .before .before .before .before .before .before .before .before .before .before .before .before .before .before .pre .1 in
+    let l = c .before .before .before .before .before .before .before .before .before .before .before .loop-test .taken in
+    let m = c .before .before .before .before .before .before .before .before .before .before .before .before .before .before .before .before .before .pre .1 in
     omega arith
 
 take-requires-2 : tie.Need-take-requires-2 Inv-loop μ-loop
@@ -120,29 +114,30 @@ take-requires-2 c κs = tt
 
 add-i : tie.Need-add-i Inv-loop μ-loop
 add-i c =
-    let l = c .before .before .before .before .before .before .before .before .before .before .before .before .before .before .before .before .before .loop-test .taken in
-    let m = c .before .before .before .before .before .before .before .before .before .before .before .before .before .before .before .before .before .before .before .before .before .before .before .before .pre .1 in
+    let l = c .before .before .before .before .before .before .before .before .before .before .before .before .before .before .before .before .loop-test .taken in
+    let m = c .before .before .before .before .before .before .before .before .before .before .before .before .before .before .before .before .before .before .before .before .before .before .pre .1 in
     omega arith
 
 loop-less : tie.Need-loop-less Inv-loop μ-loop
-loop-less c = let l = c .before .before .before .before .before .before .before .before .before .before .before .before .before .before .before .before .before .loop-test .taken in omega arith
+loop-less c = let l = c .before .before .before .before .before .before .before .before .before .before .before .before .before .before .before .before .loop-test .taken in omega arith
 
 loop-again : tie.Need-loop-again Inv-loop μ-loop
 loop-again c =
-    let at = c .before .before .before .before .before .before .before .before .before .before .before .before .before .before .before .before .before .before in
-    let a = at .before .before .before .before .before .before .args in
+    let at = c .before .before .before .before .before .before .before .before .before .before .before .before .before .before .before .before .before in
+    let a = at .before .before .before .before .before .args in
     let i = at .loop .i in
-    let l = c .before .before .before .before .before .before .before .before .before .before .before .before .before .before .before .before .before .loop-test .taken in
+    let l = c .before .before .before .before .before .before .before .before .before .before .before .before .before .before .before .before .loop-test .taken in
     let many : a .n ≡ 1 → ⊥ = λ (e : a .n ≡ 1). omega arith in
     let two : i + 2 ≡ i + 1 + 1 = omega arith in
     let three : i + 3 ≡ i + 2 + 1 = omega arith in
     let v = c .before .before .before .before .before .before .before .before .before .before .values-of .ensures in
+    let next = c .before .before .before .before .before .before .before .before .before .before .before .before .before .arguments-of2 .ensures in
     let first = raw-is (a .fc) (a .w) (a .i0) (a .n) i (c .before .before .before .before .before .before .before .before .before .before .before .before .ideal-at .ensures) (windowed (a .w) (a .i0) (a .n) i many (at .loop .inv .1) (v .0)) in
     let second = raw-is (a .fc) (a .w) (a .i0) (a .n) (i + 1) (c .before .before .before .before .before .before .before .before .before .before .before .ideal-at2 .ensures) (windowed (a .w) (a .i0) (a .n) (i + 1) many (at .loop .inv .2) (v .1)) in
     let one = taken (at .loop .inv .0) (omega arith) first (c .before .before .before .before .before .before .before .take .ensures) in (
       rw two (taken one (omega arith) second (c .before .before .take2 .ensures)),
-      c .before .before .before .before .before .before .before .before .before .before .before .before .before .before .before .argument-of3 .ensures ∙ ap (λ (p : Float). argumentOf (a .w) p) (c .before .before .before .before .before .before .before .before .before .before .before .before .before .before .before .before .place-at3 .ensures),
-      c .before .before .before .before .before .before .before .before .before .before .before .before .before .argument-of4 .ensures ∙ ap (λ (p : Float). argumentOf (a .w) p) (c .before .before .before .before .before .before .before .before .before .before .before .before .before .before .place-at4 .ensures ∙ ap (λ (k : ℕ). placeAt (a .w) (a .n) k) three),
+      next .0 ∙ ap (λ (p : Float). argumentOf (a .w) p) (c .before .before .before .before .before .before .before .before .before .before .before .before .before .before .before .place-at3 .ensures),
+      next .1 ∙ ap (λ (p : Float). argumentOf (a .w) p) (c .before .before .before .before .before .before .before .before .before .before .before .before .before .before .place-at4 .ensures ∙ ap (λ (k : ℕ). placeAt (a .w) (a .n) k) three),
     )
 
 ideal-at-requires-3 : tie.Need-ideal-at-requires-3 Inv-loop μ-loop
@@ -155,10 +150,10 @@ take-requires-3 : tie.Need-take-requires-3 Inv-loop μ-loop
 take-requires-3 c κs = tt
 
 -- the last of an odd number of taps
-last : (c : tie.After-value-at Inv-loop μ-loop) → let a = c .before .before .before .before .before .before .before .before .before .before .args in c .before .ideal-at3 .result ⊗ c .value-at .result ≡ rawAt (a .fc) (a .w) (a .i0) (a .n) (c .before .before .before .before .loop .i)
+last : (c : tie.After-value-at Inv-loop μ-loop) → let a = c .before .before .before .before .before .before .before .before .before .args in c .before .ideal-at3 .result ⊗ c .value-at .result ≡ rawAt (a .fc) (a .w) (a .i0) (a .n) (c .before .before .before .before .loop .i)
 last c =
     let at = c .before .before .before .before in
-    let a = at .before .before .before .before .before .before .args in
+    let a = at .before .before .before .before .before .args in
     raw-is (a .fc) (a .w) (a .i0) (a .n) (at .loop .i) (c .before .ideal-at3 .ensures) (c .value-at .ensures ∙ ap (λ (x : Float). valueAt (a .w) (a .i0) (a .n) x) (at .loop .inv .1) ∙ three-steps (a .w) (a .i0) (a .n) (at .loop .i))
 
 same-length : tie.Need-same-length Inv-loop μ-loop
@@ -180,17 +175,15 @@ total-spec =
     Inv-loop
     μ-loop
     place-at-requires
-    argument-of-requires
     place-at-requires-2
-    argument-of-requires-2
+    arguments-of-requires
     loop-holds
     add-loop
     add-place-at
     place-at-requires-3
-    argument-of-requires-3
     add-place-at-2
     place-at-requires-4
-    argument-of-requires-4
+    arguments-of-requires-2
     ideal-at-requires
     add-ideal-at
     ideal-at-requires-2

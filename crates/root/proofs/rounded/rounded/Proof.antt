@@ -5,9 +5,6 @@ use Rattle.root.specs.WholeRoot.{root-digits}
 use Rattle.root.proofs.rounded.rounded.Statement.{statement}
 use Rattle.root.proofs.rounded.rounded.Tie as tie
 
-estimate-requires : tie.Need-estimate-requires
-estimate-requires c κs = search needs
-
 settled-requires : tie.Need-settled-requires
 settled-requires c κs = search needs
 
@@ -16,8 +13,8 @@ root-requires c κs = search needs
 
 add-result : tie.Need-add-result
 add-result c =
-    let s = c .before .before .before .before in
-    omega (arith, root-digits (c .root .result) (s .args .m) (s .pre .0) (s .pre .1) (c .root .ensures))
+    let s = c .before .before .before in
+    omega (arith, root-digits (c .root .result) (s .args .m) (s .pre .0) (s .pre .1 .0) (c .root .ensures))
 
 returns : tie.Need-returns
 returns c = c .before .settled .ensures (c .if1 .taken)
@@ -26,6 +23,4 @@ returns-2 : tie.Need-returns-2
 returns-2 c = search needs
 
 pub rounded-spec : {M : Type 1} → statement M
-rounded-spec =
-    tie.close
-    (tie.spec estimate-requires settled-requires root-requires add-result returns returns-2)
+rounded-spec = tie.close (tie.spec settled-requires root-requires add-result returns returns-2)

@@ -1,26 +1,20 @@
--- `root::sqrt::finish` meets its contract. An odd exponent is made even by one doubling. Assumes nothing.
-use mathlib.Core.Logic.{⊎-elim}
-use native.Mathlib.Omega.{arith}
+-- `root::sqrt::finish` meets its contract. Assumes nothing.
 use borrow.Author.Needs.{needs}
-use Rattle.root.specs.Scaling.{finished-same, finished-doubled}
+use Rattle.root.specs.Scaling.{finished-evened}
 use Rattle.root.proofs.sqrt.finish.Statement.{statement}
 use Rattle.root.proofs.sqrt.finish.Tie as tie
 
-mul-d : tie.Need-mul-d
-mul-d c = search needs
+evened-requires : tie.Need-evened-requires
+evened-requires c κs = search needs
 
-sub-pattern : tie.Need-sub-pattern
-sub-pattern c = search needs
+estimate-requires : tie.Need-estimate-requires
+estimate-requires c κs = search needs
 
 pattern-requires : tie.Need-pattern-requires
-pattern-requires c κs = ⊎-elim (λ w. search needs) (λ w. search needs) (c .if1 .came)
+pattern-requires c κs = search needs
 
 returns : tie.Need-returns
-returns c =
-    ⊎-elim
-    (λ w. finished-same (w .1) (omega arith) (c .pattern .ensures))
-    (λ w. finished-doubled (w .1) (omega arith) (omega arith) (c .pattern .ensures))
-    (c .before .if1 .came)
+returns c = finished-evened (c .before .before .evened .ensures) (c .pattern .ensures)
 
 pub finish-spec : {M : Type 1} → statement M
-finish-spec = tie.close (tie.spec mul-d sub-pattern pattern-requires returns)
+finish-spec = tie.close (tie.spec evened-requires estimate-requires pattern-requires returns)

@@ -16,13 +16,14 @@ mul-result : tie.Need-mul-result
 mul-result c = search needs
 
 add-result : tie.Need-add-result
-add-result c = omega (arith, half-most (c .before .args .m) (c .rounded .result) (c .before .pre .0) (c .before .pre .1 .0) (c .rounded .ensures))
+add-result c =
+    let v = c .before .pre .0 in
+    omega (arith, half-most (c .before .args .m) (c .rounded .result) (v .least) (v .most) (c .rounded .ensures))
 
 returns : tie.Need-returns
 returns c =
     let a = c .before .args in
-    let p = c .before .pre in
-    finished (a .m) (a .g) (c .rounded .result) (p .0) (p .1 .0) (p .1 .1 .0) (p .1 .1 .1 .0) (p .1 .1 .1 .1) (c .rounded .ensures)
+    finished (a .m) (a .g) (c .rounded .result) (c .before .pre .0) (c .rounded .ensures)
 
 pub pattern-spec : {M : Type 1} → statement M
 pattern-spec = tie.close (tie.spec rounded-requires sub-result mul-result add-result returns)
