@@ -7,7 +7,7 @@ use super::sample::width;
 use refusal::Refusal;
 use refusal::Report;
 use windows::shape::Shape;
-use windows::shape::argument_of;
+use windows::shape::arguments_of;
 use windows::shape::divisor;
 use windows::shape::norm;
 use windows::shape::place_at;
@@ -22,24 +22,28 @@ ghost use Rattle.windows.specs.Shapes.{sampleAt};
 ghost use Rattle.border_windows.specs.Codes.{symmetryOf};
 ghost use Rattle.border_windows.specs.Samples.{widthOf, sampleBytes, windowBytes, WritesSamples};
 
-// Fills a buffer of whole samples, sample i at its place. The samples are taken two at a time, since two of Kaiser's series cost little more than one, and the arguments of the next two are worked out before: where a series ends is a branch that a processor foretells wrongly, and only what stands before it is worked out alongside.
+// Fills a buffer of whole samples, sample i at its place. The samples are taken two at a time, since two of Kaiser's roots or series cost little more than one, and the arguments of the next two are worked out before: where a series ends is a branch that a processor foretells wrongly, and only what stands before it is worked out alongside.
 fn put_samples(shape: Shape, i0: f64, d: u64, sample: Sample, out: &mut [u8])
     requires { ⌜ length (now out) % widthOf sample ≡ 0 ⌝ }
     ensures { λ _. ⌜ now (out .exit) ≡ chunks (length (now (out .entry)) / widthOf sample) (λ i. sampleBytes sample (sampleAt shape i0 d i)) ⌝ }
 {
     let wide = width(sample) as usize;
     let n = out.len() / wide;
-    let mut x = argument_of(shape, place_at(shape, d, 0));
-    let mut y = argument_of(shape, place_at(shape, d, 1));
+    let begun = arguments_of(shape, place_at(shape, d, 0), place_at(shape, d, 1));
+    let mut x = begun.first;
+    let mut y = begun.second;
     let mut i = 0;
     while i + 1 < n {
-        let next = argument_of(shape, place_at(shape, d, (i + 2) as u64));
-        let after = argument_of(shape, place_at(shape, d, (i + 3) as u64));
+        let next = arguments_of(
+            shape,
+            place_at(shape, d, (i + 2) as u64),
+            place_at(shape, d, (i + 3) as u64),
+        );
         let two = values_at(shape, i0, d, x, y);
         store(sample, &mut *out, wide * i, two.first);
         store(sample, &mut *out, wide * (i + 1), two.second);
-        x = next;
-        y = after;
+        x = next.first;
+        y = next.second;
         i += 2;
     }
     if i < n {

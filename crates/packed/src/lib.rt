@@ -137,7 +137,7 @@ fn single_of(n: u32) -> f32
 }
 
 // Four bytes as a number, the lowest first.
-fn join_four(a: u8, b: u8, c: u8, d: u8) -> u32
+pub fn join_four(a: u8, b: u8, c: u8, d: u8) -> u32
     ensures { λ r. ⌜ r ≡ joinedFour a b c d ⌝ }
 {
     (a as u32) + 256 * (b as u32) + 65536 * (c as u32) + 16777216 * (d as u32)
@@ -157,11 +157,10 @@ pub fn get_f32(src: &[u8], at: usize) -> f32
     single_of(join_four(src[at], src[at + 1], src[at + 2], src[at + 3]))
 }
 
-// The f64 that an f32 in four bytes is, the lowest first. One test tells a NaN's pattern for the reading and for the widening.
-pub fn wide_in(a: u8, b: u8, c: u8, d: u8) -> f64
-    ensures { λ r. ⌜ r ≡ ofBits binary32 (joinedFour a b c d) ⌝ }
+// The f64 that the f32 with the pattern n is. One test tells a NaN's pattern for the reading and for the widening.
+pub fn wide_of(n: u32) -> f64
+    ensures { λ r. ⌜ r ≡ ofBits binary32 n ⌝ }
 {
-    let n = join_four(a, b, c, d);
     if n % 2147483648 > 2139095040 {
         0.0 / 0.0
     } else {

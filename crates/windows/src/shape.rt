@@ -85,6 +85,19 @@ pub fn argument_of(shape: Shape, place: f64) -> f64
     }
 }
 
+// The arguments of two samples, where Kaiser's roots are worked out together.
+pub fn arguments_of(shape: Shape, place: f64, other: f64) -> Pair
+    ensures { λ r. ⌜ r .first ≡ argumentOf shape place ⌝ ∗ ⌜ r .second ≡ argumentOf shape other ⌝ }
+{
+    match shape {
+        Shape::Kaiser(beta) => fir::window::kaiser_arguments(beta, place, other),
+        _ => Pair {
+            first: argument_of(shape, place),
+            second: argument_of(shape, other),
+        },
+    }
+}
+
 // A sample by that, where the divisor isn't 0; i0 is the series at beta.
 fn value_of(shape: Shape, i0: f64, x: f64) -> f64
     ensures { λ r. ⌜ r ≡ valueOf shape i0 x ⌝ }

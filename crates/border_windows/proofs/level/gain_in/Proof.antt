@@ -1,4 +1,4 @@
--- `border_windows::level::gain_in` meets its contract. The loop's invariant: both sums so far. Assumes nothing.
+-- `border_windows::level::gain_in` meets its contract. The invariant of both loops: the two sums so far. Assumes nothing.
 use mathlib.Core.Path.{_≡_, refl, sym, ap, _∙_}
 use mathlib.Core.List.{List}
 use Prim.Native.Nat.{ℕ, _+_, _*_, _-_, _/_, _<_, _≤_}
@@ -52,49 +52,115 @@ Inv-loop src n sum₀ squares₀ i₀ sum squares i = Summed src i sum squares
 abbrev μ-loop : tie.MeasureT-loop
 μ-loop src n sum₀ squares₀ i₀ sum squares i = n - i
 
-loop-holds : tie.Need-loop-holds Inv-loop μ-loop
+abbrev Inv-loop2 : tie.InvT-loop2
+Inv-loop2 src n sum₀ squares₀ i₀ sum squares i = Summed src i sum squares
+
+abbrev μ-loop2 : tie.MeasureT-loop2
+μ-loop2 src n sum₀ squares₀ i₀ sum squares i = n - i
+
+loop-holds : tie.Need-loop-holds Inv-loop μ-loop Inv-loop2 μ-loop2
 loop-holds c = record { within = omega arith; sum-is = sum-none binary64 _; squares-are = sum-none binary64 _ }
 
-add-loop : tie.Need-add-loop Inv-loop μ-loop
+add-loop : tie.Need-add-loop Inv-loop μ-loop Inv-loop2 μ-loop2
 add-loop c = let w = c .loop .inv .within in omega arith
 
-mul-sample-at : tie.Need-mul-sample-at Inv-loop μ-loop
-mul-sample-at c = omega arith
+mul-pattern-at : tie.Need-mul-pattern-at Inv-loop μ-loop Inv-loop2 μ-loop2
+mul-pattern-at c = omega arith
 
-sample-at-requires : tie.Need-sample-at-requires Inv-loop μ-loop
-sample-at-requires c κs = omega arith
+pattern-at-requires : tie.Need-pattern-at-requires Inv-loop μ-loop Inv-loop2 μ-loop2
+pattern-at-requires c κs = omega arith
 
-mul-sample-at-2 : tie.Need-mul-sample-at-2 Inv-loop μ-loop
-mul-sample-at-2 c = omega arith
+mul-pattern-at-2 : tie.Need-mul-pattern-at-2 Inv-loop μ-loop Inv-loop2 μ-loop2
+mul-pattern-at-2 c = omega arith
 
-add-sample-at : tie.Need-add-sample-at Inv-loop μ-loop
-add-sample-at c = omega arith
+add-pattern-at : tie.Need-add-pattern-at Inv-loop μ-loop Inv-loop2 μ-loop2
+add-pattern-at c = omega arith
 
-sample-at-requires-2 : tie.Need-sample-at-requires-2 Inv-loop μ-loop
-sample-at-requires-2 c κs = omega arith
+pattern-at-requires-2 : tie.Need-pattern-at-requires-2 Inv-loop μ-loop Inv-loop2 μ-loop2
+pattern-at-requires-2 c κs = omega arith
 
-add-i : tie.Need-add-i Inv-loop μ-loop
-add-i c = omega arith
+mul-pattern-at-3 : tie.Need-mul-pattern-at-3 Inv-loop μ-loop Inv-loop2 μ-loop2
+mul-pattern-at-3 c = omega arith
 
-loop-less : tie.Need-loop-less Inv-loop μ-loop
-loop-less c = omega arith
+add-pattern-at-2 : tie.Need-add-pattern-at-2 Inv-loop μ-loop Inv-loop2 μ-loop2
+add-pattern-at-2 c = omega arith
 
-loop-again : tie.Need-loop-again Inv-loop μ-loop
+pattern-at-requires-3 : tie.Need-pattern-at-requires-3 Inv-loop μ-loop Inv-loop2 μ-loop2
+pattern-at-requires-3 c κs = omega arith
+
+mul-pattern-at-4 : tie.Need-mul-pattern-at-4 Inv-loop μ-loop Inv-loop2 μ-loop2
+mul-pattern-at-4 c = omega arith
+
+add-pattern-at-3 : tie.Need-add-pattern-at-3 Inv-loop μ-loop Inv-loop2 μ-loop2
+add-pattern-at-3 c = omega arith
+
+pattern-at-requires-4 : tie.Need-pattern-at-requires-4 Inv-loop μ-loop Inv-loop2 μ-loop2
+pattern-at-requires-4 c κs = omega arith
+
+is-nan-requires : tie.Need-is-nan-requires Inv-loop μ-loop Inv-loop2 μ-loop2
+is-nan-requires c κs = tt
+
+is-nan-requires-2 : tie.Need-is-nan-requires-2 Inv-loop μ-loop Inv-loop2 μ-loop2
+is-nan-requires-2 c κs = tt
+
+is-nan-requires-3 : tie.Need-is-nan-requires-3 Inv-loop μ-loop Inv-loop2 μ-loop2
+is-nan-requires-3 c κs = tt
+
+is-nan-requires-4 : tie.Need-is-nan-requires-4 Inv-loop μ-loop Inv-loop2 μ-loop2
+is-nan-requires-4 c κs = tt
+
+wide-of-requires : tie.Need-wide-of-requires Inv-loop μ-loop Inv-loop2 μ-loop2
+wide-of-requires c κs = tt
+
+wide-of-requires-2 : tie.Need-wide-of-requires-2 Inv-loop μ-loop Inv-loop2 μ-loop2
+wide-of-requires-2 c κs = tt
+
+wide-of-requires-3 : tie.Need-wide-of-requires-3 Inv-loop μ-loop Inv-loop2 μ-loop2
+wide-of-requires-3 c κs = tt
+
+wide-of-requires-4 : tie.Need-wide-of-requires-4 Inv-loop μ-loop Inv-loop2 μ-loop2
+wide-of-requires-4 c κs = tt
+
+add-i : tie.Need-add-i Inv-loop μ-loop Inv-loop2 μ-loop2
+add-i c = let l = c .before .before .before .before .before .before .before .before .before .before .before .before .before .loop-test .taken in omega arith
+
+loop-less : tie.Need-loop-less Inv-loop μ-loop Inv-loop2 μ-loop2
+loop-less c = let l = c .before .before .before .before .before .before .before .before .before .before .before .before .before .loop-test .taken in omega arith
+
+loop-again : tie.Need-loop-again Inv-loop μ-loop Inv-loop2 μ-loop2
 loop-again c =
-    let at = c .before .before .before in
+    let at = c .before .before .before .before .before .before .before .before .before .before .before .before .before .before in
     let i = at .loop .i in
-    let l = c .before .before .loop-test .taken in
-    let two : i + 2 ≡ i + 1 + 1 = omega arith in
-    rw two (more (more (at .loop .inv) refl (omega arith) (c .before .sample-at .ensures)) {k = 4 * i + 4} (omega arith) (omega arith) (c .sample-at2 .ensures))
+    let l = c .before .before .before .before .before .before .before .before .before .before .before .before .before .loop-test .taken in
+    let four : i + 4 ≡ i + 1 + 1 + 1 + 1 = omega arith in
+    let one = more (at .loop .inv) refl (omega arith) (c .before .before .before .wide-of .ensures ∙ c .before .before .before .before .before .before .before .before .before .before .before .before .pattern-at .ensures) in
+    let two = more one {k = 4 * i + 4} (omega arith) (omega arith) (c .before .before .wide-of2 .ensures ∙ c .before .before .before .before .before .before .before .before .before .before .before .pattern-at2 .ensures) in
+    let three = more two {k = 4 * i + 8} (omega arith) (omega arith) (c .before .wide-of3 .ensures ∙ c .before .before .before .before .before .before .before .before .before .before .pattern-at3 .ensures) in
+    rw four (more three {k = 4 * i + 12} (omega arith) (omega arith) (c .wide-of4 .ensures ∙ c .before .before .before .before .before .before .before .before .before .pattern-at4 .ensures))
 
-mul-sample-at-3 : tie.Need-mul-sample-at-3 Inv-loop μ-loop
-mul-sample-at-3 c = omega arith
+loop2-holds : tie.Need-loop2-holds Inv-loop μ-loop Inv-loop2 μ-loop2
+loop2-holds c = c .before .loop .inv
 
-sample-at-requires-3 : tie.Need-sample-at-requires-3 Inv-loop μ-loop
-sample-at-requires-3 c κs = omega arith
+mul-pattern-at-5 : tie.Need-mul-pattern-at-5 Inv-loop μ-loop Inv-loop2 μ-loop2
+mul-pattern-at-5 c = omega arith
 
-gain-of-requires : tie.Need-gain-of-requires Inv-loop μ-loop
-gain-of-requires c κs = search needs
+pattern-at-requires-5 : tie.Need-pattern-at-requires-5 Inv-loop μ-loop Inv-loop2 μ-loop2
+pattern-at-requires-5 c κs = omega arith
+
+wide-of-requires-5 : tie.Need-wide-of-requires-5 Inv-loop μ-loop Inv-loop2 μ-loop2
+wide-of-requires-5 c κs = tt
+
+add-i-2 : tie.Need-add-i-2 Inv-loop μ-loop Inv-loop2 μ-loop2
+add-i-2 c = omega arith
+
+loop2-less : tie.Need-loop2-less Inv-loop μ-loop Inv-loop2 μ-loop2
+loop2-less c = omega arith
+
+loop2-again : tie.Need-loop2-again Inv-loop μ-loop Inv-loop2 μ-loop2
+loop2-again c = more (c .before .before .before .loop2 .inv) refl (omega arith) (c .wide-of5 .ensures ∙ c .before .pattern-at5 .ensures)
+
+gain-of-requires : tie.Need-gain-of-requires Inv-loop μ-loop Inv-loop2 μ-loop2
+gain-of-requires c κs = tt
 
 -- the sums of all the samples
 all : {s : List ℕ} {i : ℕ} {sum squares : Float} → Summed s i sum squares → length s / 4 ≤ i → summed (length s / 4) sum squares ≡ gainOf (singles s)
@@ -103,16 +169,8 @@ all {s = s} {i = i} a l =
     let end : i ≡ length s / 4 = omega (arith, a .within) in
     rw (a .sum-is, a .squares-are, end, count s)
 
-returns : tie.Need-returns Inv-loop μ-loop
-returns c =
-    let at = c .before .before .before .before in
-    c .gain-of .ensures ∙ all (more (at .loop .inv) refl (omega arith) (c .before .sample-at3 .ensures)) (omega arith)
-
-gain-of-requires-2 : tie.Need-gain-of-requires-2 Inv-loop μ-loop
-gain-of-requires-2 c κs = search needs
-
-returns-2 : tie.Need-returns-2 Inv-loop μ-loop
-returns-2 c = c .gain-of2 .ensures ∙ all (c .before .before .before .loop .inv) (omega arith)
+returns : tie.Need-returns Inv-loop μ-loop Inv-loop2 μ-loop2
+returns c = c .gain-of .ensures ∙ all (c .before .before .loop2 .inv) (omega arith)
 
 pub gain-in-spec : {M : Type 1} → statement M
 gain-in-spec =
@@ -120,19 +178,38 @@ gain-in-spec =
     (tie.spec
     Inv-loop
     μ-loop
+    Inv-loop2
+    μ-loop2
     loop-holds
     add-loop
-    mul-sample-at
-    sample-at-requires
-    mul-sample-at-2
-    add-sample-at
-    sample-at-requires-2
+    mul-pattern-at
+    pattern-at-requires
+    mul-pattern-at-2
+    add-pattern-at
+    pattern-at-requires-2
+    mul-pattern-at-3
+    add-pattern-at-2
+    pattern-at-requires-3
+    mul-pattern-at-4
+    add-pattern-at-3
+    pattern-at-requires-4
+    is-nan-requires
+    is-nan-requires-2
+    is-nan-requires-3
+    is-nan-requires-4
+    wide-of-requires
+    wide-of-requires-2
+    wide-of-requires-3
+    wide-of-requires-4
     add-i
     loop-less
     loop-again
-    mul-sample-at-3
-    sample-at-requires-3
+    loop2-holds
+    mul-pattern-at-5
+    pattern-at-requires-5
+    wide-of-requires-5
+    add-i-2
+    loop2-less
+    loop2-again
     gain-of-requires
-    returns
-    gain-of-requires-2
-    returns-2)
+    returns)

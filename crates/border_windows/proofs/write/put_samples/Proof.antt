@@ -24,16 +24,16 @@ abbrev μ-loop : tie.MeasureT-loop
 
 -- where the loop's test stands: how it began, the width, and that the next three indices and the place of a sample in the buffer fit a usize
 abbrev start : tie.At-loop Inv-loop μ-loop → tie.Start Inv-loop μ-loop
-start at = at .before .before .before .before .before .before .before
+start at = at .before .before .before .before .before .before
 
-wide : (at : tie.At-loop Inv-loop μ-loop) → at .before .before .before .before .before .width .result ≡ widthOf (start at .args .sample)
-wide at = at .before .before .before .before .before .width .ensures
+wide : (at : tie.At-loop Inv-loop μ-loop) → at .before .before .before .before .width .result ≡ widthOf (start at .args .sample)
+wide at = at .before .before .before .before .width .ensures
 
 next-fit : (at : tie.At-loop Inv-loop μ-loop) → at .loop .i + 3 < 2 ^ 64
 next-fit at = omega (arith, half (start at .args .sample) (length (start at .args .out .now)) refl, at .loop .inv .0 .within)
 
-room-fits : (at : tie.At-loop Inv-loop μ-loop) (k : ℕ) → k ≤ length (start at .args .out .now) / at .before .before .before .before .before .width .result → at .before .before .before .before .before .width .result * k < 2 ^ 64
-room-fits at k l = omega (arith, room (at .before .before .before .before .before .width .result) (length (start at .args .out .now)) k l)
+room-fits : (at : tie.At-loop Inv-loop μ-loop) (k : ℕ) → k ≤ length (start at .args .out .now) / at .before .before .before .before .width .result → at .before .before .before .before .width .result * k < 2 ^ 64
+room-fits at k l = omega (arith, room (at .before .before .before .before .width .result) (length (start at .args .out .now)) k l)
 
 width-requires : tie.Need-width-requires Inv-loop μ-loop
 width-requires c κs = tt
@@ -44,21 +44,18 @@ div-n c = some-width (c .before .before .args .sample) (c .width .ensures)
 place-at-requires : tie.Need-place-at-requires Inv-loop μ-loop
 place-at-requires c κs = tt
 
-argument-of-requires : tie.Need-argument-of-requires Inv-loop μ-loop
-argument-of-requires c κs = tt
-
 place-at-requires-2 : tie.Need-place-at-requires-2 Inv-loop μ-loop
 place-at-requires-2 c κs = tt
 
-argument-of-requires-2 : tie.Need-argument-of-requires-2 Inv-loop μ-loop
-argument-of-requires-2 c κs = tt
+arguments-of-requires : tie.Need-arguments-of-requires Inv-loop μ-loop
+arguments-of-requires c κs = tt
 
 loop-holds : tie.Need-loop-holds Inv-loop μ-loop
 loop-holds c =
-    let a = c .before .before .before .before .before .before .args in (
+    let a = c .before .before .before .before .before .args in (
       fill-start,
-      c .before .before .argument-of .ensures ∙ ap (λ (p : Float). argumentOf (a .shape) p) (c .before .before .before .place-at .ensures),
-      c .argument-of2 .ensures ∙ ap (λ (p : Float). argumentOf (a .shape) p) (c .before .place-at2 .ensures),
+      c .arguments-of .ensures .0 ∙ ap (λ (p : Float). argumentOf (a .shape) p) (c .before .before .place-at .ensures),
+      c .arguments-of .ensures .1 ∙ ap (λ (p : Float). argumentOf (a .shape) p) (c .before .place-at2 .ensures),
     )
 
 add-loop : tie.Need-add-loop Inv-loop μ-loop
@@ -70,60 +67,58 @@ add-place-at c = omega (arith, next-fit (c .before))
 place-at-requires-3 : tie.Need-place-at-requires-3 Inv-loop μ-loop
 place-at-requires-3 c κs = tt
 
-argument-of-requires-3 : tie.Need-argument-of-requires-3 Inv-loop μ-loop
-argument-of-requires-3 c κs = tt
-
 add-place-at-2 : tie.Need-add-place-at-2 Inv-loop μ-loop
-add-place-at-2 c = omega (arith, next-fit (c .before .before .before))
+add-place-at-2 c = omega (arith, next-fit (c .before .before))
 
 place-at-requires-4 : tie.Need-place-at-requires-4 Inv-loop μ-loop
 place-at-requires-4 c κs = tt
 
-argument-of-requires-4 : tie.Need-argument-of-requires-4 Inv-loop μ-loop
-argument-of-requires-4 c κs = tt
+arguments-of-requires-2 : tie.Need-arguments-of-requires-2 Inv-loop μ-loop
+arguments-of-requires-2 c κs = tt
 
 values-at-requires : tie.Need-values-at-requires Inv-loop μ-loop
 values-at-requires c κs = tt
 
 mul-store : tie.Need-mul-store Inv-loop μ-loop
 mul-store c =
-    let at = c .before .before .before .before .before .before .before in
+    let at = c .before .before .before .before .before .before in
     omega (arith, room-fits at (at .loop .i) (omega arith))
 
 store-requires : tie.Need-store-requires Inv-loop μ-loop
 store-requires c κs = tt
 
 add-store : tie.Need-add-store Inv-loop μ-loop
-add-store c = omega (arith, next-fit (c .before .before .before .before .before .before .before .before .before .before .before))
+add-store c = omega (arith, next-fit (c .before .before .before .before .before .before .before .before .before .before))
 
 mul-store-2 : tie.Need-mul-store-2 Inv-loop μ-loop
 mul-store-2 c =
-    let at = c .before .before .before .before .before .before .before .before .before .before .before in
+    let at = c .before .before .before .before .before .before .before .before .before .before in
     omega (arith, room-fits at (at .loop .i + 1) (omega arith))
 
 store-requires-2 : tie.Need-store-requires-2 Inv-loop μ-loop
 store-requires-2 c κs = tt
 
 add-i : tie.Need-add-i Inv-loop μ-loop
-add-i c = omega (arith, next-fit (c .before .before .before .before .before .before .before .before .before .before .before .before .before .before))
+add-i c = omega (arith, next-fit (c .before .before .before .before .before .before .before .before .before .before .before .before .before))
 
 loop-less : tie.Need-loop-less Inv-loop μ-loop
 loop-less c = omega arith
 
 loop-again : tie.Need-loop-again Inv-loop μ-loop
 loop-again c =
-    let at = c .before .before .before .before .before .before .before .before .before .before .before .before .before .before in
+    let at = c .before .before .before .before .before .before .before .before .before .before .before .before .before in
     let a = start at .args in
     let i = at .loop .i in
     let v = c .before .before .before .before .before .before .before .before .values-at .ensures in
-    let l = c .before .before .before .before .before .before .before .before .before .before .before .before .before .loop-test .taken in
+    let next = c .before .before .before .before .before .before .before .before .before .arguments-of2 .ensures in
+    let l = c .before .before .before .before .before .before .before .before .before .before .before .before .loop-test .taken in
     let two : i + 2 ≡ i + 1 + 1 = omega arith in
     let three : i + 3 ≡ i + 2 + 1 = omega arith in
     let one = fill-next (at .loop .inv .0) (wide at) (omega arith) (sampled (a .shape) (a .i0) (a .d) i (at .loop .inv .1) (v .0)) (c .before .before .before .before .before .before .store .ensures) in
     let both = fill-next one (wide at) (omega arith) (sampled (a .shape) (a .i0) (a .d) (i + 1) (at .loop .inv .2) (v .1)) (c .before .before .store2 .ensures) in (
       rw two both,
-      c .before .before .before .before .before .before .before .before .before .before .before .argument-of3 .ensures ∙ ap (λ (p : Float). argumentOf (a .shape) p) (c .before .before .before .before .before .before .before .before .before .before .before .before .place-at3 .ensures),
-      c .before .before .before .before .before .before .before .before .before .argument-of4 .ensures ∙ ap (λ (p : Float). argumentOf (a .shape) p) (c .before .before .before .before .before .before .before .before .before .before .place-at4 .ensures ∙ ap (λ (k : ℕ). placeAt (a .shape) (a .d) k) three),
+      next .0 ∙ ap (λ (p : Float). argumentOf (a .shape) p) (c .before .before .before .before .before .before .before .before .before .before .before .place-at3 .ensures),
+      next .1 ∙ ap (λ (p : Float). argumentOf (a .shape) p) (c .before .before .before .before .before .before .before .before .before .before .place-at4 .ensures ∙ ap (λ (k : ℕ). placeAt (a .shape) (a .d) k) three),
     )
 
 mul-store-3 : tie.Need-mul-store-3 Inv-loop μ-loop
@@ -169,17 +164,15 @@ put-samples-spec =
     width-requires
     div-n
     place-at-requires
-    argument-of-requires
     place-at-requires-2
-    argument-of-requires-2
+    arguments-of-requires
     loop-holds
     add-loop
     add-place-at
     place-at-requires-3
-    argument-of-requires-3
     add-place-at-2
     place-at-requires-4
-    argument-of-requires-4
+    arguments-of-requires-2
     values-at-requires
     mul-store
     store-requires
