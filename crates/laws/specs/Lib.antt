@@ -11,6 +11,7 @@ pub mod Units
 pub mod Values
 pub mod Patterns
 pub mod Compared
+pub mod Signs
 pub mod Operations
 pub mod Floor
 pub mod WholeValues

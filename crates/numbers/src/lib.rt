@@ -1,5 +1,6 @@
 // Tests of numbers, and a number as a count.
 ghost use mathlib.Core.Path.{_≡_};
+ghost use mathlib.Core.Bool.{true};
 ghost use lib.Ieee.{toUnsigned};
 ghost use lib.Ieee.Scale.{finite};
 ghost use Rattle.numbers.specs.Numbers.{positive};
@@ -17,6 +18,17 @@ pub fn is_positive(x: f64) -> bool
     ensures { λ r. ⌜ r ≡ positive x ⌝ }
 {
     is_finite(x) && 0.0 < x
+}
+
+// Whether x and y are one and the same value: zeros of unlike signs are not, and a NaN isn't even itself.
+pub fn is_same(x: f64, y: f64) -> bool
+    ensures { λ r. ⌜ (r ≡ true → x ≡ y) ⌝ }
+{
+    if x == y {
+        f64::to_bits(x) == f64::to_bits(y)
+    } else {
+        false
+    }
 }
 
 // x without its fraction as a count: 0 for NaN and what is below 0, the largest count for what is above it. Rust's `as u64`.

@@ -1,3 +1,4 @@
 pub mod Trig
 pub mod Laws
 pub mod Modulo
+pub mod Opposite

@@ -3,6 +3,8 @@ use super::reduce::reduce;
 use super::series::cosine_series;
 use super::series::sine_series;
 ghost use mathlib.Core.Path.{_≡_};
+ghost use mathlib.Core.Bool.{true};
+ghost use lib.Ieee.{neg};
 ghost use Rattle.trig.specs.Trig.{sinOf};
 
 // sin(x) for sizes up to 2^25, limits included; NaN beyond, and at a NaN.
@@ -22,5 +24,23 @@ pub fn sin(x: f64) -> f64
         }
     } else {
         0.0 / 0.0
+    }
+}
+
+// Whether the sine of y is seen to be that of x with the other sign: both leave the same of a quarter turn, but for its sign, and lie as many quarter turns to either side. It takes half the time of a sine, and where it says no, nothing is known.
+pub fn is_opposite(x: f64, y: f64) -> bool
+    ensures { λ r. ⌜ (r ≡ true → sinOf y ≡ neg (sinOf x)) ⌝ }
+{
+    let most = 33554432.0;
+    if (whole::fabs::fabs(x) <= most) & (whole::fabs::fabs(y) <= most) {
+        let a = reduce(x);
+        let b = reduce(y);
+        if (a.quadrant + b.quadrant) % 4 == 0 {
+            numbers::is_same(b.rest, -a.rest)
+        } else {
+            false
+        }
+    } else {
+        false
     }
 }

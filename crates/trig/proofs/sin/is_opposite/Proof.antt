@@ -1,0 +1,69 @@
+-- `trig::sin::is_opposite` meets its contract: what is tested is what `opposite` asks. Assumes nothing.
+use mathlib.Core.Path.{_≡_, sym, subst}
+use mathlib.Core.Bool.{Bool, true, false, true≢false}
+use native.Mathlib.Omega.{arith}
+use borrow.Author.Needs.{needs}
+use lib.Ieee.{Float, ofBits, ofInt, le}
+use Rattle.laws.specs.Tests.{both, holds}
+use Rattle.whole.specs.Whole.{absOf}
+use Rattle.trig.specs.Trig.{limit}
+use Rattle.trig.specs.Opposite.{most, opposite}
+use Rattle.trig.proofs.sin.is_opposite.Statement.{statement}
+use Rattle.trig.proofs.sin.is_opposite.Tie as tie
+
+fabs-requires : tie.Need-fabs-requires
+fabs-requires c κs = search needs
+
+fabs-requires-2 : tie.Need-fabs-requires-2
+fabs-requires-2 c κs = search needs
+
+-- both arguments lie within the limit
+inside : (c : tie.Then1) → let a = c .before .before .before .args in (le (absOf (a .x)) limit ≡ true) × (le (absOf (a .y)) limit ≡ true)
+unfolding ofInt ofBits
+inside c =
+    let t = both (le (c .before .before .fabs .result) limit) (le (c .before .fabs2 .result) limit) (c .if1 .taken) in (
+      subst (λ (z : Float). le z limit ≡ true) (c .before .before .fabs .ensures) (t .0),
+      subst (λ (z : Float). le z limit ≡ true) (c .before .fabs2 .ensures) (t .1),
+    )
+
+reduce-requires : tie.Need-reduce-requires
+reduce-requires c κs = holds (inside c .0)
+
+reduce-requires-2 : tie.Need-reduce-requires-2
+reduce-requires-2 c κs = holds (inside (c .before) .1)
+
+add-if2 : tie.Need-add-if2
+add-if2 c =
+    let a = c .before .before .before .before .before .before .before .args in
+    omega (arith, most (a .x) (c .before .before .before .reduce .ensures .0), most (a .y) (c .before .before .reduce2 .ensures .0))
+
+is-same-requires : tie.Need-is-same-requires
+is-same-requires c κs = search needs
+
+returns : tie.Need-returns
+returns c h =
+    let a = c .before .before .before .before .before .before .before .before .before .before .args in
+    let t = inside (c .before .before .before .before .before .before .before) in
+    let p = c .before .before .before .before .before .before .reduce .ensures in
+    let q = c .before .before .before .before .before .reduce2 .ensures in
+    opposite (a .x) (a .y) (t .0) (t .1) (p .0) (p .1) (q .0) (q .1) (c .before .before .if2 .taken) (c .is-same .ensures h)
+
+returns-2 : tie.Need-returns-2
+returns-2 c h = absurd (true≢false (sym h))
+
+returns-3 : tie.Need-returns-3
+returns-3 c h = absurd (true≢false (sym h))
+
+pub is-opposite-spec : {M : Type 1} → statement M
+is-opposite-spec =
+    tie.close
+    (tie.spec
+    fabs-requires
+    fabs-requires-2
+    reduce-requires
+    reduce-requires-2
+    add-if2
+    is-same-requires
+    returns
+    returns-2
+    returns-3)
