@@ -8,3 +8,4 @@ pub mod Kept
 pub mod KeptLaws
 pub mod LowpassLaws
 pub mod Spec
+pub mod Mirrored

@@ -28,9 +28,13 @@ sinc x = cond (eq x (whole 0)) (whole 1) (sinOf (pi ⊗ x) ⊘ (pi ⊗ x))
 unfoldable pub centre : ℕ → Float
 centre n = whole (n - 1) ⊘ whole 2
 
+-- where tap i lies in the sinc
+abbrev pub offsetAt : Float → ℕ → ℕ → Float
+offsetAt fc n i = whole 2 ⊗ fc ⊗ (whole i ⊖ centre n)
+
 -- h[i] without its window
 abbrev pub idealAt : Float → ℕ → ℕ → Float
-idealAt fc n i = whole 2 ⊗ fc ⊗ sinc (whole 2 ⊗ fc ⊗ (whole i ⊖ centre n))
+idealAt fc n i = whole 2 ⊗ fc ⊗ sinc (offsetAt fc n i)
 
 -- h[i], i0 being the series at the window's beta
 unfoldable pub rawAt : Float → Window → Float → ℕ → ℕ → Float

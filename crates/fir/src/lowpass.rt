@@ -3,17 +3,18 @@ use super::window::Window;
 use super::window::arguments_of;
 use super::window::norm;
 use super::window::place_at;
-use super::window::value_at;
 use super::window::values_of;
 use super::window::window_at;
 use refusal::Refusal;
 ghost use mathlib.Core.Path.{_≡_};
+ghost use mathlib.Core.Bool.{true};
 ghost use Prim.Native.Nat.{_^_, _<_, _≤_};
 ghost use lib.ListN.{length, set};
 ghost use Rattle.laws.specs.Binary64.{_⊕_, _⊗_};
-ghost use Rattle.fir.specs.Lowpass.{sinc, idealAt, rawAt, inside, countTaken, betaTaken, usable, lowpassOf, tapWith, tapOf, tapsOf, outcomeOf};
+ghost use Rattle.fir.specs.Lowpass.{sinc, offsetAt, idealAt, rawAt, inside, countTaken, betaTaken, usable, lowpassOf, tapWith, tapOf, tapsOf, outcomeOf};
 ghost use Rattle.fir.specs.Outcome.{Fills};
-ghost use Rattle.fir.specs.Kept.{Keeps, Totals, Normed, Prepares};
+ghost use Rattle.fir.specs.Kept.{KeepsOf, Keeps, Totals, Normed, Prepares};
+ghost use Rattle.fir.specs.Mirrored.{SameRaw};
 
 const PI: f64 = 3.141592653589793;
 
@@ -57,14 +58,21 @@ fn sinc_at(x: f64) -> f64
     }
 }
 
+// Where tap i of n lies in the sinc: 2 fc (i − (n − 1)/2).
+fn offset_at(fc: f64, n: u64, i: u64) -> f64
+    requires { ⌜ n ≤ 2 ^ 24 ⌝ ∗ ⌜ i < n ⌝ }
+    ensures { λ r. ⌜ r ≡ offsetAt fc n i ⌝ }
+{
+    let m = ((n - 1) as f64) / 2.0;
+    2.0 * fc * ((i as f64) - m)
+}
+
 // 2 fc sinc(2 fc (i − (n − 1)/2)): tap i of n without a window.
 fn ideal_at(fc: f64, n: u64, i: u64) -> f64
     requires { ⌜ n ≤ 2 ^ 24 ⌝ ∗ ⌜ i < n ⌝ }
     ensures { λ r. ⌜ r ≡ idealAt fc n i ⌝ }
 {
-    let m = ((n - 1) as f64) / 2.0;
-    let x = 2.0 * fc * ((i as f64) - m);
-    2.0 * fc * sinc_at(x)
+    2.0 * fc * sinc_at(offset_at(fc, n, i))
 }
 
 // Tap i of n before the division: with the window.
@@ -93,17 +101,73 @@ fn take(sum: f64, i: u64, v: f64, raws: &mut [f64]) -> f64
     sum + v
 }
 
-// The sum of the raw taps, by rising index from +0. As many of them as `raws` has places are kept there, so that they needn't be worked out again. The taps are taken two at a time, since two of Kaiser's roots or series cost little more than one. What else they need, and the arguments of the next two, stands before the series: where these end is a branch that a processor foretells wrongly, and only what comes before it is worked out alongside.
+// Whether the sinc at y is seen to be that at x.
+fn is_mirrored_sinc(x: f64, y: f64) -> bool
+    ensures { λ r. ⌜ (r ≡ true → sinc y ≡ sinc x) ⌝ }
+{
+    if (x == 0.0) | (y == 0.0) {
+        return false;
+    }
+    let a = PI * x;
+    let b = PI * y;
+    if numbers::is_same(b, -a) {
+        trig::sin::is_opposite(a, b)
+    } else {
+        false
+    }
+}
+
+// Whether raw tap i of n is seen to be raw tap j. The taps of a filter are mirror images, but their bits needn't be: where a place in the window is rounded otherwise on the other side, the last bits part. About three in four of Kaiser's taps pass.
+fn is_mirrored(fc: f64, w: Window, n: u64, i: u64, j: u64) -> bool
+    requires { ⌜ n ≤ 2 ^ 24 ⌝ ∗ ⌜ i < n ⌝ ∗ ⌜ j < n ⌝ }
+    ensures { λ r. ⌜ (r ≡ true → SameRaw fc w n i j) ⌝ }
+{
+    if numbers::is_same(place_at(w, n, i), place_at(w, n, j)) {
+        is_mirrored_sinc(offset_at(fc, n, j), offset_at(fc, n, i))
+    } else {
+        false
+    }
+}
+
+// Raw tap i, where `raws` keeps those before it: from there, where its mirror image is seen to be the same.
+fn raw_near(fc: f64, w: Window, i0: f64, n: u64, i: u64, raws: &[f64]) -> f64
+    requires { ⌜ n ≤ 2 ^ 24 ⌝ ∗ ⌜ i < n ⌝ ∗ ⌜ KeepsOf (rawAt fc w i0 n) i (now raws) ⌝ }
+    ensures { λ r. ⌜ r ≡ rawAt fc w i0 n i ⌝ }
+{
+    let j = n - 1 - i;
+    let k = j as usize;
+    if j < i {
+        if k < raws.len() {
+            if is_mirrored(fc, w, n, i, j) {
+                return raws[k];
+            }
+        }
+    }
+    raw_at(fc, w, i0, n, i)
+}
+
+// How many taps of n are worked out two at a time: the first half of a Kaiser design whose raw taps are all kept, since most of the others are then at hand; else all.
+fn front_of(w: Window, n: u64, room: u64) -> u64
+    ensures { λ r. ⌜ r ≤ n ⌝ }
+{
+    match w {
+        Window::Kaiser(_) => { if n <= room { n - n / 2 } else { n } }
+        _ => n,
+    }
+}
+
+// The sum of the raw taps, by rising index from +0. As many of them as `raws` has places are kept there, so that they needn't be worked out again. The first are taken two at a time, since two of Kaiser's roots or series cost little more than one. What else they need, and the arguments of the next two, stands before the series: where these end is a branch that a processor foretells wrongly, and only what comes before it is worked out alongside.
 fn total(fc: f64, w: Window, i0: f64, n: u64, raws: &mut [f64]) -> f64
     requires { ⌜ 0 < n ⌝ ∗ ⌜ n ≤ 2 ^ 24 ⌝ }
     ensures { λ r. ⌜ Totals (rawAt fc w i0 n) n r (now (raws .exit)) ⌝ }
 {
+    let front = front_of(w, n, raws.len() as u64);
     let begun = arguments_of(w, place_at(w, n, 0), place_at(w, n, 1));
     let mut x = begun.first;
     let mut y = begun.second;
     let mut sum = 0.0;
     let mut i = 0u64;
-    while i + 1 < n {
+    while i + 1 < front {
         let next = arguments_of(w, place_at(w, n, i + 2), place_at(w, n, i + 3));
         let a = ideal_at(fc, n, i);
         let b = ideal_at(fc, n, i + 1);
@@ -114,9 +178,10 @@ fn total(fc: f64, w: Window, i0: f64, n: u64, raws: &mut [f64]) -> f64
         y = next.second;
         i += 2;
     }
-    if i < n {
-        let a = ideal_at(fc, n, i);
-        sum = take(sum, i, a * value_at(w, i0, n, x), &mut *raws);
+    while i < n {
+        let v = raw_near(fc, w, i0, n, i, &*raws);
+        sum = take(sum, i, v, &mut *raws);
+        i += 1;
     }
     sum
 }

@@ -1,4 +1,4 @@
--- `fir::lowpass::total` meets its contract. The loop's invariant: the sum of the taps so far, the first of them kept, and the arguments of the next two. Assumes nothing.
+-- `fir::lowpass::total` meets its contract. The invariant of both loops: the sum of the taps so far, and the first of them kept; that of the first has the arguments of the next two besides. Assumes nothing.
 use mathlib.Core.Path.{_≡_, refl, sym, ap, _∙_, subst}
 use mathlib.Core.Bool.{Bool, cond}
 use mathlib.Core.List.{List}
@@ -48,84 +48,99 @@ unfolding valueAt
 windowed w i0 n i many e f = f ∙ ap (λ (x : Float). valueOf w i0 x) e ∙ ap (λ (b : Bool). cond b (whole 1) (valueOf w i0 (argumentOf w (placeAt w n i)))) (sym (ne-eqb n 1 many)) ∙ three-steps w i0 n i
 
 abbrev Inv-loop : tie.InvT-loop
-Inv-loop fc w i0 n raws₀ x₀ y₀ sum₀ i₀ raws x y sum i = Sofar fc w i0 n raws₀ raws sum i × (x ≡ argumentOf w (placeAt w n i)) × (y ≡ argumentOf w (placeAt w n (i + 1)))
+Inv-loop fc w i0 n raws₀ front x₀ y₀ sum₀ i₀ raws x y sum i = Sofar fc w i0 n raws₀ raws sum i × (x ≡ argumentOf w (placeAt w n i)) × (y ≡ argumentOf w (placeAt w n (i + 1)))
 
 abbrev μ-loop : tie.MeasureT-loop
-μ-loop fc w i0 n raws₀ x₀ y₀ sum₀ i₀ raws x y sum i = n - i
+μ-loop fc w i0 n raws₀ front x₀ y₀ sum₀ i₀ raws x y sum i = n - i
 
-place-at-requires : tie.Need-place-at-requires Inv-loop μ-loop
+abbrev Inv-loop2 : tie.InvT-loop2
+Inv-loop2 fc w i0 n raws₀ front x y sum₀ i₀ raws sum i = Sofar fc w i0 n raws₀ raws sum i
+
+abbrev μ-loop2 : tie.MeasureT-loop2
+μ-loop2 fc w i0 n raws₀ front x y sum₀ i₀ raws sum i = n - i
+
+front-of-requires : tie.Need-front-of-requires Inv-loop μ-loop Inv-loop2 μ-loop2
+front-of-requires c κs = tt
+
+place-at-requires : tie.Need-place-at-requires Inv-loop μ-loop Inv-loop2 μ-loop2
 place-at-requires c κs = (omega arith, (omega arith, omega arith))
 
-place-at-requires-2 : tie.Need-place-at-requires-2 Inv-loop μ-loop
+place-at-requires-2 : tie.Need-place-at-requires-2 Inv-loop μ-loop Inv-loop2 μ-loop2
 place-at-requires-2 c κs = (omega arith, (omega arith, omega arith))
 
-arguments-of-requires : tie.Need-arguments-of-requires Inv-loop μ-loop
+arguments-of-requires : tie.Need-arguments-of-requires Inv-loop μ-loop Inv-loop2 μ-loop2
 arguments-of-requires c κs = tt
 
-loop-holds : tie.Need-loop-holds Inv-loop μ-loop
+loop-holds : tie.Need-loop-holds Inv-loop μ-loop Inv-loop2 μ-loop2
 loop-holds c =
-    let a = c .before .before .before .before .args in (
+    let a = c .before .before .before .before .before .args in (
       record { within = omega arith; same = refl; totals = totals-none (rawAt (a .fc) (a .w) (a .i0) (a .n)) (a .raws .now) },
       c .arguments-of .ensures .0 ∙ ap (λ (p : Float). argumentOf (a .w) p) (c .before .before .place-at .ensures),
       c .arguments-of .ensures .1 ∙ ap (λ (p : Float). argumentOf (a .w) p) (c .before .place-at2 .ensures),
     )
 
-add-loop : tie.Need-add-loop Inv-loop μ-loop
+add-loop : tie.Need-add-loop Inv-loop μ-loop Inv-loop2 μ-loop2
 add-loop c = omega (arith, c .loop .inv .0 .within)
 
-add-place-at : tie.Need-add-place-at Inv-loop μ-loop
-add-place-at c = omega arith
+add-place-at : tie.Need-add-place-at Inv-loop μ-loop Inv-loop2 μ-loop2
+add-place-at c = let f = c .before .before .before .before .before .front-of .ensures in omega arith
 
-place-at-requires-3 : tie.Need-place-at-requires-3 Inv-loop μ-loop
-place-at-requires-3 c κs = (omega arith, (omega arith, omega arith))
+place-at-requires-3 : tie.Need-place-at-requires-3 Inv-loop μ-loop Inv-loop2 μ-loop2
+place-at-requires-3 c κs = let f = c .before .before .before .before .before .front-of .ensures in (omega arith, (omega arith, omega arith))
 
-add-place-at-2 : tie.Need-add-place-at-2 Inv-loop μ-loop
-add-place-at-2 c = omega arith
+add-place-at-2 : tie.Need-add-place-at-2 Inv-loop μ-loop Inv-loop2 μ-loop2
+add-place-at-2 c = let f = c .before .before .before .before .before .before .front-of .ensures in omega arith
 
-place-at-requires-4 : tie.Need-place-at-requires-4 Inv-loop μ-loop
-place-at-requires-4 c κs = (omega arith, (omega arith, omega arith))
+place-at-requires-4 : tie.Need-place-at-requires-4 Inv-loop μ-loop Inv-loop2 μ-loop2
+place-at-requires-4 c κs = let f = c .before .before .before .before .before .before .front-of .ensures in (omega arith, (omega arith, omega arith))
 
-arguments-of-requires-2 : tie.Need-arguments-of-requires-2 Inv-loop μ-loop
+arguments-of-requires-2 : tie.Need-arguments-of-requires-2 Inv-loop μ-loop Inv-loop2 μ-loop2
 arguments-of-requires-2 c κs = tt
 
-ideal-at-requires : tie.Need-ideal-at-requires Inv-loop μ-loop
-ideal-at-requires c κs = (omega arith, omega arith)
+ideal-at-requires : tie.Need-ideal-at-requires Inv-loop μ-loop Inv-loop2 μ-loop2
+ideal-at-requires c κs = let f = c .before .before .before .before .before .before .before .before .front-of .ensures in (omega arith, omega arith)
 
-add-ideal-at : tie.Need-add-ideal-at Inv-loop μ-loop
-add-ideal-at c = omega arith
+add-ideal-at : tie.Need-add-ideal-at Inv-loop μ-loop Inv-loop2 μ-loop2
+add-ideal-at c = let f = c .before .before .before .before .before .before .before .before .before .front-of .ensures in omega arith
 
-ideal-at-requires-2 : tie.Need-ideal-at-requires-2 Inv-loop μ-loop
-ideal-at-requires-2 c κs = (omega arith, omega arith)
+ideal-at-requires-2 : tie.Need-ideal-at-requires-2 Inv-loop μ-loop Inv-loop2 μ-loop2
+ideal-at-requires-2 c κs = let f = c .before .before .before .before .before .before .before .before .before .front-of .ensures in (omega arith, omega arith)
 
-values-of-requires : tie.Need-values-of-requires Inv-loop μ-loop
+values-of-requires : tie.Need-values-of-requires Inv-loop μ-loop Inv-loop2 μ-loop2
 values-of-requires c κs = tt
 
-take-requires : tie.Need-take-requires Inv-loop μ-loop
+take-requires : tie.Need-take-requires Inv-loop μ-loop Inv-loop2 μ-loop2
 take-requires c κs = tt
 
-add-take : tie.Need-add-take Inv-loop μ-loop
+add-take : tie.Need-add-take Inv-loop μ-loop Inv-loop2 μ-loop2
 add-take c =
+    let f = c .before .before .before .before .before .before .before .before .before .before .before .before .before .before .before .before .front-of .ensures in
     let l = c .before .before .before .before .before .before .before .before .before .before .before .loop-test .taken in
-    let m = c .before .before .before .before .before .before .before .before .before .before .before .before .before .before .before .before .before .pre .1 in
+    let m = c .before .before .before .before .before .before .before .before .before .before .before .before .before .before .before .before .before .before .pre .1 in
     omega arith
 
-take-requires-2 : tie.Need-take-requires-2 Inv-loop μ-loop
+take-requires-2 : tie.Need-take-requires-2 Inv-loop μ-loop Inv-loop2 μ-loop2
 take-requires-2 c κs = tt
 
-add-i : tie.Need-add-i Inv-loop μ-loop
+add-i : tie.Need-add-i Inv-loop μ-loop Inv-loop2 μ-loop2
 add-i c =
+    let f = c .before .before .before .before .before .before .before .before .before .before .before .before .before .before .before .before .before .before .before .before .before .front-of .ensures in
     let l = c .before .before .before .before .before .before .before .before .before .before .before .before .before .before .before .before .loop-test .taken in
-    let m = c .before .before .before .before .before .before .before .before .before .before .before .before .before .before .before .before .before .before .before .before .before .before .pre .1 in
+    let m = c .before .before .before .before .before .before .before .before .before .before .before .before .before .before .before .before .before .before .before .before .before .before .before .pre .1 in
     omega arith
 
-loop-less : tie.Need-loop-less Inv-loop μ-loop
-loop-less c = let l = c .before .before .before .before .before .before .before .before .before .before .before .before .before .before .before .before .loop-test .taken in omega arith
+loop-less : tie.Need-loop-less Inv-loop μ-loop Inv-loop2 μ-loop2
+loop-less c =
+    let f = c .before .before .before .before .before .before .before .before .before .before .before .before .before .before .before .before .before .before .before .before .before .front-of .ensures in
+    let l = c .before .before .before .before .before .before .before .before .before .before .before .before .before .before .before .before .loop-test .taken in
+    omega arith
 
-loop-again : tie.Need-loop-again Inv-loop μ-loop
+loop-again : tie.Need-loop-again Inv-loop μ-loop Inv-loop2 μ-loop2
 loop-again c =
     let at = c .before .before .before .before .before .before .before .before .before .before .before .before .before .before .before .before .before in
-    let a = at .before .before .before .before .before .args in
+    let a = at .before .before .before .before .before .before .args in
     let i = at .loop .i in
+    let f = c .before .before .before .before .before .before .before .before .before .before .before .before .before .before .before .before .before .before .before .before .before .front-of .ensures in
     let l = c .before .before .before .before .before .before .before .before .before .before .before .before .before .before .before .before .loop-test .taken in
     let many : a .n ≡ 1 → ⊥ = λ (e : a .n ≡ 1). omega arith in
     let two : i + 2 ≡ i + 1 + 1 = omega arith in
@@ -140,33 +155,29 @@ loop-again c =
       next .1 ∙ ap (λ (p : Float). argumentOf (a .w) p) (c .before .before .before .before .before .before .before .before .before .before .before .before .before .before .place-at4 .ensures ∙ ap (λ (k : ℕ). placeAt (a .w) (a .n) k) three),
     )
 
-ideal-at-requires-3 : tie.Need-ideal-at-requires-3 Inv-loop μ-loop
-ideal-at-requires-3 c κs = (omega arith, omega arith)
+loop2-holds : tie.Need-loop2-holds Inv-loop μ-loop Inv-loop2 μ-loop2
+loop2-holds c = let s = c .before .loop .inv .0 in record { within = s .within; same = refl; totals = s .totals }
 
-value-at-requires : tie.Need-value-at-requires Inv-loop μ-loop
-value-at-requires c κs = tt
+raw-near-requires : tie.Need-raw-near-requires Inv-loop μ-loop Inv-loop2 μ-loop2
+raw-near-requires c κs = (omega arith, (omega arith, c .before .before .loop2 .inv .totals .keeps))
 
-take-requires-3 : tie.Need-take-requires-3 Inv-loop μ-loop
+take-requires-3 : tie.Need-take-requires-3 Inv-loop μ-loop Inv-loop2 μ-loop2
 take-requires-3 c κs = tt
 
--- the last of an odd number of taps
-last : (c : tie.After-value-at Inv-loop μ-loop) → let a = c .before .before .before .before .before .before .before .before .before .args in c .before .ideal-at3 .result ⊗ c .value-at .result ≡ rawAt (a .fc) (a .w) (a .i0) (a .n) (c .before .before .before .before .loop .i)
-last c =
-    let at = c .before .before .before .before in
-    let a = at .before .before .before .before .before .args in
-    raw-is (a .fc) (a .w) (a .i0) (a .n) (at .loop .i) (c .before .ideal-at3 .ensures) (c .value-at .ensures ∙ ap (λ (x : Float). valueAt (a .w) (a .i0) (a .n) x) (at .loop .inv .1) ∙ three-steps (a .w) (a .i0) (a .n) (at .loop .i))
+add-i-2 : tie.Need-add-i-2 Inv-loop μ-loop Inv-loop2 μ-loop2
+add-i-2 c = omega arith
 
-same-length : tie.Need-same-length Inv-loop μ-loop
-same-length c = taken (c .before .before .before .before .before .before .before .before .loop .inv .0) (omega arith) (last (c .before .before .before .before)) (c .before .before .take3 .ensures) .same
+loop2-less : tie.Need-loop2-less Inv-loop μ-loop Inv-loop2 μ-loop2
+loop2-less c = omega arith
 
-returns : tie.Need-returns Inv-loop μ-loop
-returns c = all (taken (c .before .before .before .before .before .before .before .before .loop .inv .0) (omega arith) (last (c .before .before .before .before)) (c .before .before .take3 .ensures)) (omega arith)
+loop2-again : tie.Need-loop2-again Inv-loop μ-loop Inv-loop2 μ-loop2
+loop2-again c = taken (c .before .before .before .before .before .before .before .loop2 .inv) (omega arith) (c .before .before .before .before .raw-near .ensures) (c .before .before .take3 .ensures)
 
-same-length-2 : tie.Need-same-length-2 Inv-loop μ-loop
-same-length-2 c = c .before .before .loop .inv .0 .same
+same-length : tie.Need-same-length Inv-loop μ-loop Inv-loop2 μ-loop2
+same-length c = c .before .loop2 .inv .same ∙ c .before .before .before .loop .inv .0 .same
 
-returns-2 : tie.Need-returns-2 Inv-loop μ-loop
-returns-2 c = all (c .before .before .loop .inv .0) (omega arith)
+returns : tie.Need-returns Inv-loop μ-loop Inv-loop2 μ-loop2
+returns c = all (c .before .loop2 .inv) (omega arith)
 
 pub total-spec : {M : Type 1} → statement M
 total-spec =
@@ -174,6 +185,9 @@ total-spec =
     (tie.spec
     Inv-loop
     μ-loop
+    Inv-loop2
+    μ-loop2
+    front-of-requires
     place-at-requires
     place-at-requires-2
     arguments-of-requires
@@ -194,10 +208,11 @@ total-spec =
     add-i
     loop-less
     loop-again
-    ideal-at-requires-3
-    value-at-requires
+    loop2-holds
+    raw-near-requires
     take-requires-3
+    add-i-2
+    loop2-less
+    loop2-again
     same-length
-    returns
-    same-length-2
-    returns-2)
+    returns)

@@ -1,0 +1,30 @@
+-- Two raw taps that are the same, by what was seen of their places. Assumes nothing.
+use mathlib.Core.Path.{_≡_, sym, ap, _∙_}
+use mathlib.Core.Bool.{Bool, true, false, cond, _||_}
+use Prim.Native.Nat.{ℕ}
+use lib.Ieee.{Float, binary64, neg, eq}
+use Rattle.laws.specs.Binary64.{_⊗_, _⊘_, whole, pi}
+use Rattle.laws.specs.Signs.{div-neg-both}
+use Rattle.trig.specs.Trig.{sinOf}
+use Rattle.fir.specs.declared.window.Window.{Window}
+use Rattle.fir.specs.Windows.{windowAt, placeAt, argumentOf, valueAt}
+use Rattle.fir.specs.StepLaws.{three-steps}
+use Rattle.fir.specs.Lowpass.{sinc, offsetAt, idealAt, rawAt}
+
+-- raw taps i and j of n are the same, whatever the series at beta is
+abbrev pub SameRaw : Float → Window → ℕ → ℕ → ℕ → Type 0
+SameRaw fc w n i j = (i0 : Float) → rawAt fc w i0 n i ≡ rawAt fc w i0 n j
+
+-- the sinc is even where the sine is odd
+pub same-sinc : (x y : Float) → eq x (whole 0) ≡ false → eq y (whole 0) ≡ false → pi ⊗ y ≡ neg (pi ⊗ x) → sinOf (pi ⊗ y) ≡ neg (sinOf (pi ⊗ x)) → sinc y ≡ sinc x
+unfolding sinc
+same-sinc x y a b e s =
+    rw (a, b) (ap (λ (z : Float). sinOf (pi ⊗ y) ⊘ z) e ∙ ap (λ (z : Float). z ⊘ neg (pi ⊗ x)) s ∙ div-neg-both binary64 (sinOf (pi ⊗ x)) (pi ⊗ x))
+
+same-window : (w : Window) (i0 : Float) (n i j : ℕ) → placeAt w n i ≡ placeAt w n j → windowAt w i0 n i ≡ windowAt w i0 n j
+same-window w i0 n i j e = sym (three-steps w i0 n i) ∙ ap (λ (p : Float). valueAt w i0 n (argumentOf w p)) e ∙ three-steps w i0 n j
+
+pub same-raw : (fc : Float) (w : Window) (n i j : ℕ) → placeAt w n i ≡ placeAt w n j → sinc (offsetAt fc n i) ≡ sinc (offsetAt fc n j) → SameRaw fc w n i j
+unfolding rawAt
+same-raw fc w n i j p s i0 =
+    ap (λ (z : Float). whole 2 ⊗ fc ⊗ z ⊗ windowAt w i0 n i) s ∙ ap (λ (z : Float). idealAt fc n j ⊗ z) (same-window w i0 n i j p)
