@@ -14,10 +14,10 @@ use Rattle.fir.specs.declared.window.Window.{Window}
 use Rattle.fir.specs.declared.window.Window.the-variants.{Kaiser}
 use Rattle.fir.specs.declared.lowpass.Designed.{Designed}
 use Rattle.fir.specs.declared.lowpass.Designed.the-variants as Designed
-use Rattle.fir.specs.declared.spec.DesignSpec.{DesignSpec}
+use Rattle.design.specs.declared.DesignSpec.{DesignSpec}
 use Rattle.fir.specs.Outcome.{Outcome, Made, Turned}
 use Rattle.fir.specs.Lowpass.{inside, countTaken, betaTaken, usable, divisorOf, lowpassOf, outcomeOf}
-use Rattle.fir.specs.Spec.{designIn, specOrderOf, specDesignOf}
+use Rattle.design.specs.Spec.{designIn, specOrderOf, specDesignOf}
 use Rattle.channelizer.specs.Channelizer as Channelizer
 use Rattle.border.specs.Sources.{Room}
 

@@ -1,10 +1,10 @@
 -- The low-pass by its specification, for a buffer of bytes. Definitions only.
 use Prim.Native.Nat.{ℕ, _/_}
 use lib.Ieee.{Float}
-use Rattle.fir.specs.declared.spec.DesignSpec.{DesignSpec}
+use Rattle.design.specs.declared.DesignSpec.{DesignSpec}
 use Rattle.fir.specs.Outcome.{Outcome}
 use Rattle.fir.specs.Lowpass.{outcomeOf}
-use Rattle.fir.specs.Spec.{specDesignOf}
+use Rattle.design.specs.Spec.{specDesignOf}
 use Rattle.border.specs.Taps.{wholeTaps}
 
 abbrev pub specOf : Float → Float → Float → DesignSpec

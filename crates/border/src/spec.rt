@@ -3,12 +3,12 @@ use super::told::told_length;
 use super::told::told_lowpass;
 use super::write::KEPT;
 use super::write::write_lowpass;
-use fir::spec::DesignSpec;
+use design::DesignSpec;
 use refusal::Refusal;
 use refusal::Report;
 ghost use mathlib.Core.Path.{_≡_};
 ghost use lib.ListN.{length};
-ghost use Rattle.fir.specs.Spec.{numTapsOf, specLowpassOf};
+ghost use Rattle.design.specs.Spec.{numTapsOf, specLowpassOf};
 ghost use Rattle.fir.specs.Lowpass.{outcomeOf};
 ghost use Rattle.border.specs.Reports.{lengthReport, outcomeReport};
 ghost use Rattle.border.specs.Taps.{Writes};
@@ -75,6 +75,6 @@ pub extern "C" fn pel_spec_design(
         attenuation: attenuation,
     };
     let mut raws = [0.0f64; KEPT];
-    let p = fir::spec::spec_prepare(spec, rate, cap, len / 8, &mut raws);
+    let p = design::spec_prepare(spec, rate, cap, len / 8, &mut raws);
     write_lowpass(p, &raws, &mut *out)
 }

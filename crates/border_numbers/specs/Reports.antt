@@ -5,8 +5,8 @@ use Rattle.refusal.specs.declared.Report.{Report}
 use Rattle.refusal.specs.Report.{reportOf, acceptedOf}
 use Rattle.kaiser.specs.declared.order.Order.{Order}
 use Rattle.kaiser.specs.declared.order.Order.the-variants as Order
-use Rattle.fir.specs.declared.delay.Delayed.{Delayed}
-use Rattle.fir.specs.declared.delay.Delayed.the-variants as Delayed
+use Rattle.delay.specs.declared.Delayed.{Delayed}
+use Rattle.delay.specs.declared.Delayed.the-variants as Delayed
 use Rattle.conversions.specs.declared.q15.Coded.{Coded}
 use Rattle.conversions.specs.declared.q15.Coded.the-variants as Coded
 

@@ -1,10 +1,10 @@
 // How many taps a design needs and how long it delays, as exports on numbers.
 use border::told::told_length;
-use fir::delay::Delayed;
+use delay::Delayed;
 use kaiser::order::Order;
 use refusal::Report;
 ghost use mathlib.Core.Path.{_≡_};
-ghost use Rattle.fir.specs.Delay.{delayOf};
+ghost use Rattle.delay.specs.Delay.{delayOf};
 ghost use Rattle.kaiser.specs.Kaiser.{orderOf, halfbandLenOf};
 ghost use Rattle.border.specs.Reports.{lengthReport};
 ghost use Rattle.border_numbers.specs.Reports.{orderReport, delayReport};
@@ -34,7 +34,7 @@ pub extern "C" fn pel_halfband_len(transition: f64, attenuation: f64, rate: f64)
 pub extern "C" fn pel_delay(taps: u64) -> Report
     ensures { λ r. ⌜ r ≡ delayReport (delayOf taps) ⌝ }
 {
-    let delayed = fir::delay::delay(taps);
+    let delayed = delay::delay(taps);
     match delayed {
         Delayed::Samples(n) => refusal::accepted(n, 0.0),
         Delayed::Refused(why) => refusal::refused(why),

@@ -1,6 +1,6 @@
 // Checks worked examples whose answers are known from outside: a line for each, and a last line with the counts.
 mod bessel;
-mod delay;
+mod delays;
 mod formulas;
 mod lowpass;
 mod spec;
@@ -18,6 +18,6 @@ fn main() {
     c = lowpass::windows(c);
     c = spec::caps(c);
     c = spec::buffers(c);
-    c = delay::samples(c);
+    c = delays::samples(c);
     expect::tell::total(c);
 }

@@ -1,4 +1,5 @@
 // Examples of low-pass filters by what they have to do.
+use design::DesignSpec;
 use expect::answers::near;
 use expect::answers::none;
 use expect::answers::of_filled;
@@ -9,7 +10,6 @@ use expect::taps::all_are;
 use expect::taps::sum;
 use expect::tell::Counts;
 use expect::tell::example;
-use fir::spec::DesignSpec;
 use refusal::Refusal;
 
 fn speech() -> DesignSpec {

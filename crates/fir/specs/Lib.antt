@@ -1,4 +1,3 @@
-pub mod Delay
 pub mod Windows
 pub mod StepLaws
 pub mod Outcome
@@ -7,5 +6,4 @@ pub mod Lowpass
 pub mod Kept
 pub mod KeptLaws
 pub mod LowpassLaws
-pub mod Spec
 pub mod Mirrored

@@ -1,5 +1,3 @@
 // Low-pass filters by windows: from a cutoff and a number of taps, or from a specification.
-pub mod delay;
 pub mod lowpass;
-pub mod spec;
 pub mod window;

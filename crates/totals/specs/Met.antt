@@ -27,7 +27,7 @@ use Rattle.conversions.specs.Q15.{moved, takes}
 use Rattle.fir.specs.Outcome.{Outcome, Made, Turned}
 use Rattle.fir.specs.Windows.{windowAt, normOf}
 use Rattle.fir.specs.Lowpass as Lowpass
-use Rattle.fir.specs.Spec.{specOrderOf, specDesignOf}
+use Rattle.design.specs.Spec.{specOrderOf, specDesignOf}
 use Rattle.halfband.specs.Halfband as Halfband
 use Rattle.pulses.specs.Gaussian as Gaussian
 use Rattle.channelizer.specs.Channelizer as Channelizer

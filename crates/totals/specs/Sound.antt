@@ -17,12 +17,12 @@ use Rattle.kaiser.specs.declared.order.Order.{Order}
 use Rattle.kaiser.specs.declared.order.Order.the-variants as Order
 use Rattle.fir.specs.Outcome.{Outcome, Made, Turned}
 use Rattle.fir.specs.Lowpass as Lowpass
-use Rattle.fir.specs.Spec.{cutoffTaken, cappedOf, specOrderOf, designIn, specDesignOf}
+use Rattle.design.specs.Spec.{cutoffTaken, cappedOf, specOrderOf, designIn, specDesignOf}
 use Rattle.fir.specs.declared.window.Window.{Window}
 use Rattle.fir.specs.declared.window.Window.the-variants.{Kaiser}
 use Rattle.fir.specs.declared.lowpass.Designed.{Designed}
 use Rattle.fir.specs.declared.lowpass.Designed.the-variants as Designed
-use Rattle.fir.specs.declared.spec.DesignSpec.{DesignSpec}
+use Rattle.design.specs.declared.DesignSpec.{DesignSpec}
 use Rattle.halfband.specs.Halfband as Halfband
 use Rattle.halfband.specs.declared.HalfbandDesigned.{HalfbandDesigned}
 use Rattle.halfband.specs.declared.HalfbandDesigned.the-variants as HalfbandDesigned

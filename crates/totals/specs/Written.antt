@@ -15,7 +15,7 @@ use Rattle.refusal.specs.Report.{acceptedOf}
 use Rattle.refusal.specs.declared.Report.{Report}
 use Rattle.conversions.specs.Q15.{takes}
 use Rattle.fir.specs.Outcome.{Outcome, Made, Turned}
-use Rattle.fir.specs.declared.spec.DesignSpec.{DesignSpec}
+use Rattle.design.specs.declared.DesignSpec.{DesignSpec}
 use Rattle.border.specs.Codes.{windowOf}
 use Rattle.border.specs.Lowpass.{lowpassBytes}
 use Rattle.border.specs.Buffers.{halfbandBytes, gaussianBytes, channelizerBytes}

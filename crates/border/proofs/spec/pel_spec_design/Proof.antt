@@ -4,7 +4,7 @@ use Prim.Native.Nat.{ℕ, _/_}
 use lib.ListN.{length}
 use Rattle.fir.specs.Outcome.{Outcome}
 use Rattle.fir.specs.Lowpass.{outcomeOf}
-use Rattle.fir.specs.Spec.{specDesignOf}
+use Rattle.design.specs.Spec.{specDesignOf}
 use Rattle.border.specs.Spec.{specOf}
 use Rattle.border.specs.Counts.{spec-count, room}
 use Rattle.border.specs.Laws.{leaves-part, fits-lowpass, writes-whole}

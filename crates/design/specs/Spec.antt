@@ -12,11 +12,11 @@ use Rattle.kaiser.specs.declared.order.Order.{Order}
 use Rattle.kaiser.specs.declared.order.Order.the-variants as Order
 use Rattle.kaiser.specs.declared.order.Length.{Length}
 use Rattle.kaiser.specs.declared.order.Length.the-variants as Length
 use Rattle.fir.specs.Lowpass.{lowpassOf}
 use Rattle.fir.specs.declared.window.Window.the-variants.{Kaiser}
 use Rattle.fir.specs.declared.lowpass.Designed.{Designed}
 use Rattle.fir.specs.declared.lowpass.Designed.the-variants as Designed
-use Rattle.fir.specs.declared.spec.DesignSpec.{DesignSpec}
+use Rattle.design.specs.declared.DesignSpec.{DesignSpec}
 
 unfoldable pub cutoffTaken : Float → Float → Bool
 cutoffTaken cutoff most = lt (whole 0) cutoff && le cutoff most

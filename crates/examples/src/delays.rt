@@ -1,10 +1,10 @@
 // Examples of the delay of a filter.
+use delay::Delayed;
+use delay::delay;
 use expect::answers::none;
 use expect::answers::same;
 use expect::tell::Counts;
 use expect::tell::example;
-use fir::delay::Delayed;
-use fir::delay::delay;
 use refusal::Refusal;
 
 fn of_delayed(d: Delayed) -> Refusal {

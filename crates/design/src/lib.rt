@@ -1,21 +1,21 @@
 // A low-pass by what it has to do: Kaiser's formulas find how many taps and which beta.
-use super::lowpass::Designed;
-use super::lowpass::Filled;
-use super::lowpass::Lowpass;
-use super::lowpass::Prepared;
-use super::lowpass::finish;
-use super::lowpass::prepare;
-use super::window::Window;
+use fir::lowpass::Designed;
+use fir::lowpass::Filled;
+use fir::lowpass::Lowpass;
+use fir::lowpass::Prepared;
+use fir::lowpass::finish;
+use fir::lowpass::prepare;
+use fir::window::Window;
 use kaiser::order::Length;
 use kaiser::order::Order;
 use kaiser::order::kaiserord;
 use refusal::Refusal;
 ghost use mathlib.Core.Path.{_≡_};
 ghost use lib.ListN.{length};
 ghost use Rattle.fir.specs.Outcome.{Fills};
 ghost use Rattle.fir.specs.Lowpass.{outcomeOf};
 ghost use Rattle.fir.specs.Kept.{Prepares};
-ghost use Rattle.fir.specs.Spec.{cutoffTaken, cappedOf, specOrderOf, numTapsOf, specLowpassOf, specDesignOf};
+ghost use Rattle.design.specs.Spec.{cutoffTaken, cappedOf, specOrderOf, numTapsOf, specLowpassOf, specDesignOf};
 
 // The cutoff, the width of the transition around it, and the attenuation in dB beyond it.
 pub struct DesignSpec {

@@ -1,9 +1,9 @@
--- `fir::spec::DesignSpec::num_taps` meets its contract. Assumes nothing.
+-- `design::DesignSpec::num_taps` meets its contract. Assumes nothing.
 use mathlib.Core.Path.{sym, ap, _∙_}
-use Rattle.fir.specs.Spec.{tapsIn, numTapsOf}
+use Rattle.design.specs.Spec.{tapsIn, numTapsOf}
 use borrow.Author.Needs.{needs}
-use Rattle.fir.proofs.spec.DesignSpec.num_taps.Statement.{statement}
-use Rattle.fir.proofs.spec.DesignSpec.num_taps.Tie as tie
+use Rattle.design.proofs.DesignSpec.num_taps.Statement.{statement}
+use Rattle.design.proofs.DesignSpec.num_taps.Tie as tie
 
 spec-order-requires : tie.Need-spec-order-requires
 spec-order-requires c κs = search needs

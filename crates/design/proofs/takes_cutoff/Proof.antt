@@ -1,9 +1,9 @@
--- `fir::spec::takes_cutoff` meets its contract. Assumes nothing.
+-- `design::takes_cutoff` meets its contract. Assumes nothing.
 use mathlib.Core.Path.{sym, _∙_}
 use lib.Ieee.{ofBits, ofInt}
-use Rattle.fir.specs.Spec.{cutoffTaken}
-use Rattle.fir.proofs.spec.takes_cutoff.Statement.{statement}
-use Rattle.fir.proofs.spec.takes_cutoff.Tie as tie
+use Rattle.design.specs.Spec.{cutoffTaken}
+use Rattle.design.proofs.takes_cutoff.Statement.{statement}
+use Rattle.design.proofs.takes_cutoff.Tie as tie
 
 returns : tie.Need-returns
 unfolding cutoffTaken ofInt ofBits

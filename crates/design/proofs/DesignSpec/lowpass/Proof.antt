@@ -1,9 +1,9 @@
--- `fir::spec::DesignSpec::lowpass` meets its contract. Assumes nothing.
+-- `design::DesignSpec::lowpass` meets its contract. Assumes nothing.
 use mathlib.Core.Path.{sym, ap, _∙_}
-use Rattle.fir.specs.Spec.{lowpassIn, specLowpassOf}
+use Rattle.design.specs.Spec.{lowpassIn, specLowpassOf}
 use borrow.Author.Needs.{needs}
-use Rattle.fir.proofs.spec.DesignSpec.lowpass.Statement.{statement}
-use Rattle.fir.proofs.spec.DesignSpec.lowpass.Tie as tie
+use Rattle.design.proofs.DesignSpec.lowpass.Statement.{statement}
+use Rattle.design.proofs.DesignSpec.lowpass.Tie as tie
 
 spec-order-requires : tie.Need-spec-order-requires
 spec-order-requires c κs = search needs

@@ -1,12 +1,12 @@
--- `fir::delay::delay` meets its contract. Assumes nothing.
+-- `delay::delay` meets its contract. Assumes nothing.
 use borrow.Author.Needs.{needs}
 use mathlib.Core.Path.{_≡_, refl, sym, ap}
 use Prim.Native.Nat.{ℕ, zero, suc, _-_, _/_}
 use native.Mathlib.Omega.{arith}
-use Rattle.fir.specs.Delay.{delayOf}
-use Rattle.fir.specs.declared.delay.Delayed.the-variants.{Samples}
-use Rattle.fir.proofs.delay.delay.Statement.{statement}
-use Rattle.fir.proofs.delay.delay.Tie as tie
+use Rattle.delay.specs.Delay.{delayOf}
+use Rattle.delay.specs.declared.Delayed.the-variants.{Samples}
+use Rattle.delay.proofs.delay.Statement.{statement}
+use Rattle.delay.proofs.delay.Tie as tie
 
 sub-t4 : tie.Need-sub-t4
 sub-t4 c = search needs

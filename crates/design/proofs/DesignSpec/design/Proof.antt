@@ -1,9 +1,9 @@
--- `fir::spec::DesignSpec::design` meets its contract. Assumes nothing.
+-- `design::DesignSpec::design` meets its contract. Assumes nothing.
 use mathlib.Core.Path.{refl}
 use Rattle.fir.specs.LowpassLaws.{fills-as}
 use borrow.Author.Needs.{needs}
-use Rattle.fir.proofs.spec.DesignSpec.design.Statement.{statement}
-use Rattle.fir.proofs.spec.DesignSpec.design.Tie as tie
+use Rattle.design.proofs.DesignSpec.design.Statement.{statement}
+use Rattle.design.proofs.DesignSpec.design.Tie as tie
 
 slice-aggregate-spec-prepare : tie.Need-slice-aggregate-spec-prepare
 slice-aggregate-spec-prepare c = refl

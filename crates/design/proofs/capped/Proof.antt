@@ -1,11 +1,11 @@
--- `fir::spec::capped` meets its contract. Assumes nothing.
+-- `design::capped` meets its contract. Assumes nothing.
 use mathlib.Core.Path.{sym, ap, _∙_}
 use borrow.Author.Tests.{lt-ltb, le-ltb}
 use Rattle.kaiser.specs.declared.order.Order.{Order}
-use Rattle.fir.specs.Spec.{cappedOf}
+use Rattle.design.specs.Spec.{cappedOf}
 use borrow.Author.Needs.{needs}
-use Rattle.fir.proofs.spec.capped.Statement.{statement}
-use Rattle.fir.proofs.spec.capped.Tie as tie
+use Rattle.design.proofs.capped.Statement.{statement}
+use Rattle.design.proofs.capped.Tie as tie
 
 enum-known-order : tie.Need-enum-known-order
 enum-known-order c = search needs

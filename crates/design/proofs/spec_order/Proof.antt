@@ -1,4 +1,4 @@
--- `fir::spec::spec_order` meets its contract: what each test says, and then an answer at a time. Assumes nothing.
+-- `design::spec_order` meets its contract: what each test says, and then an answer at a time. Assumes nothing.
 use mathlib.Core.Path.{_≡_, sym, ap, _∙_}
 use mathlib.Core.Bool.{true}
 use borrow.Author.Tests.{not-true, not-false}
@@ -6,10 +6,10 @@ use lib.Ieee.{ofBits, ofInt}
 use Rattle.laws.specs.Binary64.{_⊖_, _⊘_, whole}
 use Rattle.numbers.specs.Numbers.{positive}
 use Rattle.kaiser.specs.declared.order.Order.{Order}
-use Rattle.fir.specs.Spec.{cutoffTaken, cappedOf, specOrderOf}
+use Rattle.design.specs.Spec.{cutoffTaken, cappedOf, specOrderOf}
 use borrow.Author.Needs.{needs}
-use Rattle.fir.proofs.spec.spec_order.Statement.{statement}
-use Rattle.fir.proofs.spec.spec_order.Tie as tie
+use Rattle.design.proofs.spec_order.Statement.{statement}
+use Rattle.design.proofs.spec_order.Tie as tie
 
 -- ---- what each test that was passed says
 past1 : (c : tie.Else1) → positive (c .before .before .args .rate) ≡ true

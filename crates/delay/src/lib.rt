@@ -1,7 +1,7 @@
 // The delay of a linear-phase filter.
 use refusal::Refusal;
 ghost use mathlib.Core.Path.{_≡_};
-ghost use Rattle.fir.specs.Delay.{delayOf};
+ghost use Rattle.delay.specs.Delay.{delayOf};
 
 // A number of samples, or why not.
 pub enum Delayed {

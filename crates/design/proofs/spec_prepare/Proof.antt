@@ -1,12 +1,12 @@
--- `fir::spec::spec_prepare` meets its contract. Assumes nothing.
+-- `design::spec_prepare` meets its contract. Assumes nothing.
 use mathlib.Core.Path.{_≡_, refl, sym, ap, _∙_}
 use borrow.Author.Tests.{eq-eqb, ne-eqb}
 use Rattle.fir.specs.LowpassLaws.{prepares-as, prepares-refusal}
-use Rattle.fir.specs.Spec.{designIn, specDesignOf}
+use Rattle.design.specs.Spec.{designIn, specDesignOf}
 use native.Mathlib.Omega.{arith}
 use borrow.Author.Needs.{needs}
-use Rattle.fir.proofs.spec.spec_prepare.Statement.{statement}
-use Rattle.fir.proofs.spec.spec_prepare.Tie as tie
+use Rattle.design.proofs.spec_prepare.Statement.{statement}
+use Rattle.design.proofs.spec_prepare.Tie as tie
 
 spec-order-requires : tie.Need-spec-order-requires
 spec-order-requires c κs = search needs
