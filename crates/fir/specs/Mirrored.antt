@@ -1,6 +1,6 @@
 -- Two raw taps that are the same, by what was seen of their places. Assumes nothing.
 use mathlib.Core.Path.{_≡_, sym, ap, _∙_}
-use mathlib.Core.Bool.{Bool, true, false, cond, _||_}
+use mathlib.Core.Bool.{false}
 use Prim.Native.Nat.{ℕ}
 use lib.Ieee.{Float, binary64, neg, eq}
 use Rattle.laws.specs.Binary64.{_⊗_, _⊘_, whole, pi}

@@ -1,3 +1,3 @@
-// Low-pass filters by windows: from a cutoff and a number of taps, or from a specification.
+// Low-pass filters by windows, from a cutoff and a number of taps.
 pub mod lowpass;
 pub mod window;

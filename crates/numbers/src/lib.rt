@@ -3,7 +3,7 @@ ghost use mathlib.Core.Path.{_≡_};
 ghost use mathlib.Core.Bool.{true};
 ghost use lib.Ieee.{toUnsigned};
 ghost use lib.Ieee.Scale.{finite};
-ghost use Rattle.numbers.specs.Numbers.{positive};
+ghost use Rattle.numbers.specs.Numbers.{positive, same};
 
 // Whether x is neither a NaN nor an infinity.
 pub fn is_finite(x: f64) -> bool
@@ -22,7 +22,7 @@ pub fn is_positive(x: f64) -> bool
 
 // Whether x and y are one and the same value: zeros of unlike signs are not, and a NaN isn't even itself.
 pub fn is_same(x: f64, y: f64) -> bool
-    ensures { λ r. ⌜ (r ≡ true → x ≡ y) ⌝ }
+    ensures { λ r. ⌜ r ≡ same x y ⌝ ∗ ⌜ (r ≡ true → x ≡ y) ⌝ }
 {
     if x == y {
         f64::to_bits(x) == f64::to_bits(y)

@@ -1,16 +1,22 @@
--- The sines of two arguments that lie as many quarter turns to either side of 0 and leave the same, but for its sign. Assumes nothing.
+-- The sines of two arguments that lie as many quarter turns to either side of 0 and leave the same, but for its sign: the test, and that their sines differ in their sign alone where it passes. Assumes nothing.
 use mathlib.Core.Path.{_≡_, refl, sym, ap, _∙_, subst}
-use mathlib.Core.Bool.{true}
+use mathlib.Core.Bool.{Bool, true, _&&_}
 use Prim.Native.Nat.{ℕ, zero, suc, _+_, _-_, _%_, _≤_}
 use native.Mathlib.Omega.{arith}
+use lib.Dec.{eqb}
 use lib.IntN.{ℤ, pos, negsuc}
 use lib.Ieee.{Float, binary64, neg, le}
 use Rattle.laws.specs.Binary64.{_⊗_, nested}
 use Rattle.laws.specs.Signs.{neg-neg, mul-neg, mul-neg-both}
 use Rattle.laws.specs.Floor.{floorZ}
+use Rattle.numbers.specs.Numbers.{same}
 use Rattle.whole.specs.Whole.{absOf}
 use Rattle.trig.specs.Trig.{quarters, modulo4, quadrant, rest, sineTerms, cosineTerms, sineSeries, cosineSeries, sineIn, limit, sinOf}
 use Rattle.trig.specs.Laws.{At, sin-at}
+
+-- both within the limit, in quadrants that add up to whole turns, and what is left of y is what is left of x with the other sign
+unfoldable pub oppositeOf : Float → Float → Bool
+oppositeOf x y = (le (absOf x) limit && le (absOf y) limit) && (eqb ((quadrant x + quadrant y) % 4) 0 && same (rest y) (neg (rest x)))
 
 -- a quadrant is one of four
 quadrant-most : (x : Float) → quadrant x ≤ 3

@@ -32,7 +32,7 @@ returns c h =
     let q = c .before .before .before .before .before .place-at2 .ensures in
     let x = c .before .before .offset-at .ensures in
     let y = c .before .offset-at2 .ensures in
-    same-raw (a .fc) (a .w) (a .n) (a .i) (a .j) (sym p ∙ c .before .before .before .before .is-same .ensures (c .before .before .before .if1 .taken) ∙ q) (ap sinc (sym y) ∙ c .is-mirrored-sinc .ensures h ∙ ap sinc x)
+    same-raw (a .fc) (a .w) (a .n) (a .i) (a .j) (sym p ∙ c .before .before .before .before .is-same .ensures .1 (c .before .before .before .if1 .taken) ∙ q) (ap sinc (sym y) ∙ c .is-mirrored-sinc .ensures h ∙ ap sinc x)
 
 returns-2 : tie.Need-returns-2
 returns-2 c h = absurd (true≢false (sym h))

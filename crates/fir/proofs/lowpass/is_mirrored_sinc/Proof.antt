@@ -23,7 +23,7 @@ unfolding ofInt ofBits
 returns-2 c h =
     let a = c .before .before .before .before .args in
     let t = neither (eq (a .x) (whole 0)) (eq (a .y) (whole 0)) (c .before .before .before .if1 .left) in
-    same-sinc (a .x) (a .y) (t .0) (t .1) (c .before .before .is-same .ensures (c .before .if2 .taken)) (c .is-opposite .ensures h)
+    same-sinc (a .x) (a .y) (t .0) (t .1) (c .before .before .is-same .ensures .1 (c .before .if2 .taken)) (c .is-opposite .ensures .1 h)
 
 returns-3 : tie.Need-returns-3
 returns-3 c h = absurd (true≢false (sym h))
