@@ -222,10 +222,12 @@ pub use border::{
     pel_rrc_new, pel_sin, pel_spec_lowpass, pel_spec_num_taps, pel_sqrt,
 };
 
-/// A function that fills a buffer: the C function with its pointer and length as one slice.
+/// A function that fills a buffer: the C function with its pointer and length as one slice. Inlined, so that a
+/// caller in another crate calls the C function itself.
 macro_rules! filling {
     ($($(#[$doc:meta])* $name:ident($($argument:ident: $kind:ty),*);)*) => {$(
         $(#[$doc])*
+        #[inline]
         pub fn $name($($argument: $kind,)* out: &mut [u8]) -> Report {
             // SAFETY: `out` is so many writable bytes that nobody else uses, at a pointer that isn't null.
             unsafe { border::$name($($argument,)* out.as_mut_ptr(), out.len()) }
@@ -272,6 +274,7 @@ filling! {
 macro_rules! converting {
     ($($(#[$doc:meta])* $name:ident;)*) => {$(
         $(#[$doc])*
+        #[inline]
         pub fn $name(source: &[u8], out: &mut [u8]) -> Report {
             // SAFETY: each slice is so many bytes at a pointer that isn't null; `out` is writable, nobody
             // else uses it, and the source doesn't overlap it.
@@ -292,6 +295,7 @@ converting! {
 }
 
 /// The gain and the bandwidth of a window of floats.
+#[inline]
 pub fn pel_window_gain(source: &[u8]) -> GainReport {
     // SAFETY: the source is so many bytes at a pointer that isn't null.
     unsafe { border::pel_window_gain(source.as_ptr(), source.len()) }
