@@ -6,9 +6,8 @@ CHECKED = -g -O1 -fsanitize=address,undefined -fno-sanitize-recover=all
 LIB = target/lib/libpeldozkar.a
 # The crates with exports: each makes one object, and the library holds them all.
 EXPORTS = border border_kinds border_numbers border_formats border_sections border_windows
-# All crates that those rest on, by crates.txt, and how many run at once.
+# All crates that those rest on, by crates.txt.
 BELOW = $(shell for crate in $(EXPORTS); do sed -n "s/^$$crate://p" crates.txt; done | tr ' ' '\n' | sort -u)
-JOBS = $(shell nproc)
 DESIGN = tools/design.c tools/kinds.c tools/forms.c tools/words.c tools/help.c tools/files.c tools/picture.c tools/plot.c tools/response.c
 # Where `make install` puts things, below DESTDIR if that is said, and the version that pkg-config tells.
 PREFIX ?= /usr/local
@@ -34,17 +33,13 @@ test:
 
 lib: $(LIB)
 
-# What the crates with exports rest on is proved first, and then their objects are made side by side: each proves its crate once more.
+# What the crates with exports rest on is proved first, several at once; then their objects are made one after the other, since rt can't do two of these in one tree.
 $(LIB): $(SOURCES)
 	mkdir -p target/lib
 	rm -f target/lib/*
 	rt check $(BELOW) >target/below.log 2>&1 || { cat target/below.log; exit 1; }
-	$(MAKE) --no-print-directory -j $(JOBS) $(EXPORTS:%=target/lib/%.o)
+	for crate in $(EXPORTS); do rt staticlib $$crate >target/staticlib.log 2>&1 || { cat target/staticlib.log; exit 1; }; (cd target/lib && ar x ../staticlib/lib$$crate.a $$crate.o) || exit 1; done
 	cd target/lib && ar rcs libpeldozkar.a $(EXPORTS:=.o)
-
-target/lib/%.o:
-	rt staticlib $* >target/staticlib-$*.log 2>&1 || { cat target/staticlib-$*.log; exit 1; }
-	cd target/lib && ar x ../staticlib/lib$*.a $*.o
 
 # The library, the header and a file for pkg-config below PREFIX: all three, or none with the reason.
 install: $(LIB)
