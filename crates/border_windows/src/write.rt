@@ -22,7 +22,7 @@ ghost use Rattle.windows.specs.Shapes.{sampleAt};
 ghost use Rattle.border_windows.specs.Codes.{symmetryOf};
 ghost use Rattle.border_windows.specs.Samples.{widthOf, sampleBytes, windowBytes, WritesSamples};
 
-// Fills a buffer of whole samples, sample i at its place. The samples are taken two at a time, since two of Kaiser's roots or series cost little more than one, and the arguments of the next two are worked out before: where a series ends is a branch that a processor foretells wrongly, and only what stands before it is worked out alongside.
+// Fills a buffer of whole samples, sample i at its place. The samples are taken two at a time, since two of Kaiser's series cost little more than one, and two of his roots less than two, and the arguments of the next two are worked out before: where a series ends is a branch that a processor foretells wrongly, and only what stands before it is worked out alongside.
 fn put_samples(shape: Shape, i0: f64, d: u64, sample: Sample, out: &mut [u8])
     requires { ⌜ length (now out) % widthOf sample ≡ 0 ⌝ }
     ensures { λ _. ⌜ now (out .exit) ≡ chunks (length (now (out .entry)) / widthOf sample) (λ i. sampleBytes sample (sampleAt shape i0 d i)) ⌝ }

@@ -156,7 +156,7 @@ fn front_of(w: Window, n: u64, room: u64) -> u64
     }
 }
 
-// The sum of the raw taps, by rising index from +0. As many of them as `raws` has places are kept there, so that they needn't be worked out again. The first are taken two at a time, since two of Kaiser's roots or series cost little more than one. What else they need, and the arguments of the next two, stands before the series: where these end is a branch that a processor foretells wrongly, and only what comes before it is worked out alongside.
+// The sum of the raw taps, by rising index from +0. As many of them as `raws` has places are kept there, so that they needn't be worked out again. The first are taken two at a time, since two of Kaiser's series cost little more than one, and two of his roots less than two. What else they need, and the arguments of the next two, stands before the series: where these end is a branch that a processor foretells wrongly, and only what comes before it is worked out alongside.
 fn total(fc: f64, w: Window, i0: f64, n: u64, raws: &mut [f64]) -> f64
     requires { ⌜ 0 < n ⌝ ∗ ⌜ n ≤ 2 ^ 24 ⌝ }
     ensures { λ r. ⌜ Totals (rawAt fc w i0 n) n r (now (raws .exit)) ⌝ }

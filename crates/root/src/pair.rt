@@ -37,7 +37,7 @@ fn sqrt_bits_pair(a: u64, b: u64) -> Patterns
     }
 }
 
-// The square roots of x and y, each as `sqrt` gives it. Where neither is zero, subnormal, negative or not finite, the guesses are worked out together, in little more time than one.
+// The square roots of x and y, each as `sqrt` gives it. Where neither is zero, subnormal, negative or not finite, the guesses are worked out together, in less time than one after the other.
 pub fn sqrt_pair(x: f64, y: f64) -> Roots
     ensures { λ r. ⌜ r .first ≡ sqrtOf x ⌝ ∗ ⌜ r .second ≡ sqrtOf y ⌝ }
 {
