@@ -21,6 +21,10 @@ pub record Totals (g : ℕ → Float) (n : ℕ) (sum : Float) (rs : List Float) 
   pub is : sum ≡ sumTo binary64 g n
   pub keeps : KeepsOf g n rs
 
+-- a sum goes on from `from` values to n by the elements of a list, whatever values that keeps
+abbrev pub Adds : List Float → Float → ℕ → Float → ℕ → Type 0
+Adds rs begun from sum n = (g : ℕ → Float) → begun ≡ sumTo binary64 g from → KeepsOf g n rs → sum ≡ sumTo binary64 g n
+
 -- a list keeps a design's first raw taps
 abbrev pub Keeps : Lowpass → Float → List Float → Type 0
 Keeps l i0 rs = KeepsOf (rawAt (l .fc) (l .window) i0 (l .n)) (l .n) rs

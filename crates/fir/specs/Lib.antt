@@ -7,3 +7,4 @@ pub mod Kept
 pub mod KeptLaws
 pub mod LowpassLaws
 pub mod Mirrored
+pub mod Waiting
