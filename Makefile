@@ -5,7 +5,7 @@ STRICT = -std=c11 -Wall -Wextra -Werror -Iinclude
 CHECKED = -g -O1 -fsanitize=address,undefined -fno-sanitize-recover=all
 LIB = target/lib/libpeldozkar.a
 # The crates with exports: each makes one object, and the library holds them all.
-EXPORTS = border border_kinds border_numbers border_formats border_sections border_windows
+EXPORTS = border border_kinds border_numbers border_formats border_sections border_windows border_gain
 # All crates that those rest on, by crates.txt.
 BELOW = $(shell for crate in $(EXPORTS); do sed -n "s/^$$crate://p" crates.txt; done | tr ' ' '\n' | sort -u)
 DESIGN = tools/design.c tools/kinds.c tools/forms.c tools/words.c tools/help.c tools/files.c tools/picture.c tools/plot.c tools/response.c

@@ -1,6 +1,5 @@
-// What C and Rust programs call for windows: their samples as f32 or Q15, and what a window does to a level.
+// What C and Rust programs call for windows: their samples as f32 or Q15.
 mod codes;
-pub mod level;
 mod sample;
 pub mod samples;
 mod write;

@@ -1,7 +1,7 @@
 // Kind 48: the gain and the bandwidth of a window. A line has its length in bytes, the patterns of its whole samples, and the seven words of the answer in the order of its fields.
 ghost use Prim.Native.Nat.{_≤_};
-use border_windows::level::GainReport;
-use border_windows::level::pel_window_gain;
+use border_gain::level::GainReport;
+use border_gain::level::pel_window_gain;
 use listed::lent;
 use listed::lent::ELEMENTS;
 use listed::line::WORDS;

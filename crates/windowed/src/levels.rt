@@ -4,7 +4,7 @@ use expect::answers::near;
 use expect::tell::Counts;
 use expect::tell::example;
 use windows::fill::fill_f32;
-use windows::gain::window_gain;
+use gain::window_gain;
 use windows::shape::Shape;
 use windows::shape::Symmetry;
 

@@ -1,4 +1,3 @@
 pub mod Shapes
-pub mod Gain
 pub mod FillLaws
 pub mod SampleLaws

@@ -1,4 +1,3 @@
-// Windows for spectral analysis and filters, as f32 and as Q15 samples, and what a window does to a level.
+// Windows for spectral analysis and filters, as f32 and as Q15 samples.
 pub mod fill;
-pub mod gain;
 pub mod shape;

@@ -1,6 +1,6 @@
 // What a window does to a level and to noise.
 ghost use mathlib.Core.Path.{_≡_};
-ghost use Rattle.windows.specs.Gain.{summed, gainOf};
+ghost use Rattle.gain.specs.Gain.{summed, gainOf};
 
 // The coherent gain, Σ w / n, and the noise-equivalent bandwidth in bins, n Σ w² / (Σ w)².
 pub struct Gain {

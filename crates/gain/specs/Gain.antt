@@ -8,7 +8,7 @@ use lib.ListN.{length, getD}
 use lib.Ieee.{Float, nan, binary64}
 use Rattle.laws.specs.Binary64.{_⊗_, _⊘_, whole}
 use Rattle.laws.specs.Sums.{sumTo}
-use Rattle.windows.specs.declared.gain.Gain.{Gain}
+use Rattle.gain.specs.declared.Gain.{Gain}
 
 -- of n samples with these sums
 unfoldable pub summed : ℕ → Float → Float → Gain

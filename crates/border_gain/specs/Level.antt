@@ -7,8 +7,8 @@ use lib.ListN.{length}
 use lib.Ieee.{Float}
 use Rattle.laws.specs.Binary64.{whole}
 use Rattle.packed.specs.Bytes.{singlesIn}
-use Rattle.windows.specs.Gain.{gainOf}
-use Rattle.border_windows.specs.declared.level.GainReport.{GainReport}
+use Rattle.gain.specs.Gain.{gainOf}
+use Rattle.border_gain.specs.declared.level.GainReport.{GainReport}
 
 -- the f32s of a source of bytes
 abbrev pub singles : List ℕ → List Float

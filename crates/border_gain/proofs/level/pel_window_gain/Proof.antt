@@ -1,13 +1,13 @@
--- `border_windows::level::pel_window_gain` meets its contract. Assumes nothing.
+-- `border_gain::level::pel_window_gain` meets its contract. Assumes nothing.
 use mathlib.Core.Path.{sym}
 use Prim.Native.Nat.{_%_}
 use borrow.Author.Needs.{needs}
 use borrow.Author.Tests.{eq-eqb, ne-eqb}
 use lib.ListN.{length}
 use lib.Ieee.{ofInt, ofBits}
-use Rattle.border_windows.specs.Level.{gainReport}
-use Rattle.border_windows.proofs.level.pel_window_gain.Statement.{statement}
-use Rattle.border_windows.proofs.level.pel_window_gain.Tie as tie
+use Rattle.border_gain.specs.Level.{gainReport}
+use Rattle.border_gain.proofs.level.pel_window_gain.Statement.{statement}
+use Rattle.border_gain.proofs.level.pel_window_gain.Tie as tie
 
 sub-t8 : tie.Need-sub-t8
 sub-t8 c = search needs

@@ -1,4 +1,4 @@
--- `border_windows::level::gain_in` meets its contract. The invariant of both loops: the two sums so far. Assumes nothing.
+-- `border_gain::level::gain_in` meets its contract. The invariant of both loops: the two sums so far. Assumes nothing.
 use mathlib.Core.Path.{_≡_, refl, sym, ap, _∙_}
 use mathlib.Core.List.{List}
 use Prim.Native.Nat.{ℕ, _+_, _*_, _-_, _/_, _<_, _≤_}
@@ -10,10 +10,10 @@ use Rattle.laws.specs.Binary64.{_⊕_, _⊗_}
 use Rattle.laws.specs.Filled.{length-tabulate, getD-tabulate}
 use Rattle.laws.specs.Sums.{sumTo, sum-none, sum-more}
 use Rattle.packed.specs.Bytes.{singleAt}
-use Rattle.windows.specs.Gain.{summed, gainOf}
-use Rattle.border_windows.specs.Level.{singles}
-use Rattle.border_windows.proofs.level.gain_in.Statement.{statement}
-use Rattle.border_windows.proofs.level.gain_in.Tie as tie
+use Rattle.gain.specs.Gain.{summed, gainOf}
+use Rattle.border_gain.specs.Level.{singles}
+use Rattle.border_gain.proofs.level.gain_in.Statement.{statement}
+use Rattle.border_gain.proofs.level.gain_in.Tie as tie
 
 -- a sample, and its square
 abbrev sample : List ℕ → ℕ → Float

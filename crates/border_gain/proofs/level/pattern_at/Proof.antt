@@ -1,12 +1,12 @@
--- `border_windows::level::pattern_at` meets its contract. Assumes nothing.
+-- `border_gain::level::pattern_at` meets its contract. Assumes nothing.
 use mathlib.Core.Path.{ap, _∙_}
 use Prim.Native.Nat.{ℕ}
 use native.Mathlib.Omega.{arith}
 use borrow.Author.Needs.{needs}
 use lib.Ieee.{binary32, ofBits}
 use Rattle.packed.specs.Read.{four}
-use Rattle.border_windows.proofs.level.pattern_at.Statement.{statement}
-use Rattle.border_windows.proofs.level.pattern_at.Tie as tie
+use Rattle.border_gain.proofs.level.pattern_at.Statement.{statement}
+use Rattle.border_gain.proofs.level.pattern_at.Tie as tie
 
 shared-slice-read-join-four : tie.Need-shared-slice-read-join-four
 shared-slice-read-join-four c = search needs

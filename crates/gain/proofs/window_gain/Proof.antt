@@ -1,4 +1,4 @@
--- `windows::gain::window_gain` meets its contract. The loop's invariant: both sums so far. Assumes nothing.
+-- `gain::window_gain` meets its contract. The loop's invariant: both sums so far. Assumes nothing.
 use mathlib.Core.Path.{_≡_, ap, _∙_}
 use mathlib.Core.List.{List}
 use Prim.Native.Nat.{ℕ, _+_, _-_, _≤_}
@@ -8,9 +8,9 @@ use lib.ListN.{length, getD}
 use lib.Ieee.{Float, nan, binary64}
 use Rattle.laws.specs.Binary64.{_⊕_, _⊗_}
 use Rattle.laws.specs.Sums.{sumTo, sum-none, sum-more}
-use Rattle.windows.specs.Gain.{gainOf}
-use Rattle.windows.proofs.gain.window_gain.Statement.{statement}
-use Rattle.windows.proofs.gain.window_gain.Tie as tie
+use Rattle.gain.specs.Gain.{gainOf}
+use Rattle.gain.proofs.window_gain.Statement.{statement}
+use Rattle.gain.proofs.window_gain.Tie as tie
 
 -- a sample, and its square
 abbrev sample : List Float → ℕ → Float

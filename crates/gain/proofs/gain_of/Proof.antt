@@ -1,11 +1,11 @@
--- `windows::gain::gain_of` meets its contract. Assumes nothing.
+-- `gain::gain_of` meets its contract. Assumes nothing.
 use mathlib.Core.Path.{sym}
 use borrow.Author.Tests.{eq-eqb, ne-eqb}
 use borrow.Author.Needs.{needs}
 use lib.Ieee.{ofBits, ofInt}
-use Rattle.windows.specs.Gain.{summed}
-use Rattle.windows.proofs.gain.gain_of.Statement.{statement}
-use Rattle.windows.proofs.gain.gain_of.Tie as tie
+use Rattle.gain.specs.Gain.{summed}
+use Rattle.gain.proofs.gain_of.Statement.{statement}
+use Rattle.gain.proofs.gain_of.Tie as tie
 
 returns : tie.Need-returns
 unfolding summed ofInt ofBits

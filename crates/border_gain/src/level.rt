@@ -1,13 +1,13 @@
 // What a window does to a level and to noise, as an export.
-use windows::gain::Gain;
-use windows::gain::gain_of;
+use gain::Gain;
+use gain::gain_of;
 ghost use mathlib.Core.Path.{_≡_};
 ghost use Prim.Native.Nat.{_+_, _%_, _≤_};
 ghost use lib.ListN.{length};
 ghost use lib.Ieee.{binary32, ofBits};
 ghost use Rattle.packed.specs.Bytes.{singleAt};
-ghost use Rattle.windows.specs.Gain.{gainOf};
-ghost use Rattle.border_windows.specs.Level.{singles, gainReport};
+ghost use Rattle.gain.specs.Gain.{gainOf};
+ghost use Rattle.border_gain.specs.Level.{singles, gainReport};
 
 // What pel_window_gain answers; a field that does not apply is 0.
 #[repr(C)]
