@@ -5,7 +5,9 @@ STRICT = -std=c11 -Wall -Wextra -Werror -Iinclude
 CHECKED = -g -O1 -fsanitize=address,undefined -fno-sanitize-recover=all
 LIB = target/lib/libpeldozkar.a
 # The crates with exports: each makes one object, and the library holds them all.
-EXPORTS = border border_kinds border_numbers border_formats border_sections border_windows border_gain
+EXPORTS = border border_kinds border_windows border_formats border_sections border_numbers border_gain
+# How many objects are made at once.
+JOBS = $(shell nproc 2>/dev/null || echo 1)
 # All crates that those rest on, by crates.txt.
 BELOW = $(shell for crate in $(EXPORTS); do sed -n "s/^$$crate://p" crates.txt; done | tr ' ' '\n' | sort -u)
 DESIGN = tools/design.c tools/kinds.c tools/forms.c tools/words.c tools/help.c tools/files.c tools/picture.c tools/plot.c tools/response.c
@@ -33,12 +35,12 @@ test:
 
 lib: $(LIB)
 
-# What the crates with exports rest on is proved first, several at once; then their objects are made one after the other, since rt can't do two of these in one tree.
-$(LIB): $(SOURCES)
+# What the crates with exports rest on is proved first, then their objects are made: both several at once.
+$(LIB): $(SOURCES) tools/object
 	mkdir -p target/lib
 	rm -f target/lib/*
 	rt check $(BELOW) >target/below.log 2>&1 || { cat target/below.log; exit 1; }
-	for crate in $(EXPORTS); do rt staticlib $$crate >target/staticlib.log 2>&1 || { cat target/staticlib.log; exit 1; }; (cd target/lib && ar x ../staticlib/lib$$crate.a $$crate.o) || exit 1; done
+	printf '%s\n' $(EXPORTS) | xargs -P $(JOBS) -I{} tools/object {}
 	cd target/lib && ar rcs libpeldozkar.a $(EXPORTS:=.o)
 
 # The library, the header and a file for pkg-config below PREFIX: all three, or none with the reason.

@@ -1,8 +1,8 @@
 // Checks worked examples of the root-raised-cosine pulse, of Q14 and of f32 whose answers are known from outside: a line for each, and a last line with the counts.
 mod buffers;
+mod coefficients;
 mod nearest;
 mod pulse;
-mod q14;
 
 fn main() {
     let mut c = expect::tell::begun();
@@ -13,10 +13,10 @@ fn main() {
     c = pulse::rational(c);
     c = pulse::refused(c);
     c = pulse::buffers(c);
-    c = q14::taken(c);
-    c = q14::refused(c);
-    c = q14::lengths(c);
-    c = q14::stopped(c);
+    c = coefficients::taken(c);
+    c = coefficients::refused(c);
+    c = coefficients::lengths(c);
+    c = coefficients::stopped(c);
     c = nearest::normal(c);
     c = nearest::ties(c);
     c = nearest::tiny(c);

@@ -1,7 +1,7 @@
 -- The windows by their codes. Definitions only.
 use Prim.Native.Nat.{ℕ, zero, suc}
 use lib.Ieee.{Float}
-use Rattle.fir.specs.declared.window.Window.the-variants.{Hann, Hamming, Blackman, Kaiser}
+use Rattle.raw_taps.specs.declared.window.Window.the-variants.{Hann, Hamming, Blackman, Kaiser}
 use Rattle.border.specs.declared.codes.Coded.{Coded}
 use Rattle.border.specs.declared.codes.Coded.the-variants.{Known, Unknown}
 

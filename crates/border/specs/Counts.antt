@@ -10,8 +10,8 @@ use Rattle.laws.specs.Binary64.{_⊘_}
 use Rattle.numbers.specs.Numbers.{positive}
 use Rattle.kaiser.specs.declared.order.Order.{Order}
 use Rattle.kaiser.specs.declared.order.Order.the-variants as Order
-use Rattle.fir.specs.declared.window.Window.{Window}
-use Rattle.fir.specs.declared.window.Window.the-variants.{Kaiser}
+use Rattle.raw_taps.specs.declared.window.Window.{Window}
+use Rattle.raw_taps.specs.declared.window.Window.the-variants.{Kaiser}
 use Rattle.fir.specs.declared.lowpass.Designed.{Designed}
 use Rattle.fir.specs.declared.lowpass.Designed.the-variants as Designed
 use Rattle.design.specs.declared.DesignSpec.{DesignSpec}

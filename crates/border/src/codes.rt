@@ -1,5 +1,5 @@
 // The windows by their codes, since an enum is no argument of a C function.
-use fir::window::Window;
+use raw_taps::window::Window;
 ghost use mathlib.Core.Path.{_≡_};
 ghost use Rattle.border.specs.Codes.{windowOf};
 

@@ -8,7 +8,7 @@ use lib.Ieee.{Float}
 use Rattle.packed.specs.Bytes.{twosOf}
 use Rattle.refusal.specs.declared.Refusal.{Refusal}
 use Rattle.conversions.specs.Q15 as Q15
-use Rattle.conversions.specs.Q14 as Q14
+use Rattle.q14.specs.Q14 as Q14
 use Rattle.conversions.specs.declared.q15.Coded.the-variants as Coded
 use Rattle.border_formats.specs.declared.element.Format.{Format}
 use Rattle.border_formats.specs.declared.element.Format.the-variants as Format

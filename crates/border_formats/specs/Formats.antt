@@ -7,7 +7,7 @@ use Rattle.packed.specs.Bytes.{bytesOf, twosOf}
 use Rattle.refusal.specs.declared.Refusal.{Refusal}
 use Rattle.refusal.specs.declared.Refusal.the-variants as Refusal
 use Rattle.conversions.specs.Q15 as Q15
-use Rattle.conversions.specs.Q14 as Q14
+use Rattle.q14.specs.Q14 as Q14
 use Rattle.conversions.specs.declared.q15.Coded.{Coded}
 use Rattle.conversions.specs.declared.q15.Coded.the-variants as Coded
 use Rattle.singles.specs.Single.{singleOf}

@@ -44,7 +44,7 @@ pub(crate) fn encode(format: Format, i: u64, x: f64) -> Encoded
 {
     match format {
         Format::Q15 => coded(conversions::q15::q15_tap(i, x)),
-        Format::Q14 => coded(conversions::q14::q14_from_f64(i, x)),
+        Format::Q14 => coded(q14::q14_from_f64(i, x)),
         Format::Single => Encoded::Pattern(singles::narrow::pattern_of(x) as u64),
     }
 }

@@ -4,7 +4,7 @@ use mathlib.Core.Path.{_≡_}
 use mathlib.Core.List.{List}
 use lib.Ieee.{Float}
 use Rattle.fir.specs.Outcome.{Outcome}
-use Rattle.fir.specs.Windows.{normOf}
+use Rattle.raw_taps.specs.Windows.{normOf}
 use Rattle.fir.specs.Kept.{Keeps}
 use Rattle.halfband.specs.Halfband as Halfband
 use Rattle.halfband.specs.declared.HalfbandDesign.{HalfbandDesign}

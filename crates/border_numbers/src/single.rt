@@ -3,7 +3,7 @@ use conversions::q15::Coded;
 use refusal::Report;
 ghost use mathlib.Core.Path.{_≡_};
 ghost use Rattle.conversions.specs.Q15.{q15Of, q15TapOf};
-ghost use Rattle.conversions.specs.Q14.{q14TapOf};
+ghost use Rattle.q14.specs.Q14.{q14TapOf};
 ghost use Rattle.border_numbers.specs.Reports.{codedReport};
 
 // floor(32768 x + 0.5), held to −32768 and 32767; 0 for a NaN.
@@ -37,5 +37,5 @@ pub extern "C" fn pel_q15_tap(tap: f64) -> Report
 pub extern "C" fn pel_q14_from_f64(x: f64) -> Report
     ensures { λ r. ⌜ r ≡ codedReport (q14TapOf 0 x) ⌝ }
 {
-    told(conversions::q14::q14_from_f64(0, x))
+    told(q14::q14_from_f64(0, x))
 }

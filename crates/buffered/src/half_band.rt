@@ -18,7 +18,7 @@ pub fn halfband_taps(beta: f64, taps: &mut [f64]) -> Filled
             let none = [0.0f64; 0];
             let lp = d.lp;
             let w = lp.window;
-            let i0 = fir::window::norm(w);
+            let i0 = raw_taps::window::norm(w);
             for k in 0..n {
                 taps[k] = kept_tap(d, i0, &none, k as u64);
             }

@@ -20,7 +20,7 @@ use Rattle.kaiser.specs.declared.order.Length.the-variants as Length
 use Rattle.fir.specs.Lowpass.{lowpassOf}
 use Rattle.fir.specs.LowpassLaws.{never, prepares-as, prepares-refusal}
 use Rattle.fir.specs.Kept.{Prepares}
-use Rattle.fir.specs.declared.window.Window.the-variants.{Kaiser}
+use Rattle.raw_taps.specs.declared.window.Window.the-variants.{Kaiser}
 use Rattle.fir.specs.declared.lowpass.Lowpass.{Lowpass}
 use Rattle.fir.specs.declared.lowpass.Designed.{Designed}
 use Rattle.fir.specs.declared.lowpass.Designed.the-variants as Designed

@@ -2,8 +2,8 @@
 use fir::lowpass::Designed;
 use fir::lowpass::Filled;
 use fir::lowpass::Prepared;
-use fir::window::Window;
 use kaiser::order::Length;
+use raw_taps::window::Window;
 use refusal::Refusal;
 ghost use mathlib.Core.Path.{_≡_};
 ghost use lib.ListN.{length};

@@ -1,3 +1,2 @@
 // Taps as the numbers that a filter in fixed point runs on.
-pub mod q14;
 pub mod q15;

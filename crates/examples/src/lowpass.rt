@@ -12,7 +12,7 @@ use expect::tell::example;
 use fir::lowpass::Designed;
 use fir::lowpass::Lowpass;
 use fir::lowpass::firwin_lowpass;
-use fir::window::Window;
+use raw_taps::window::Window;
 use refusal::Refusal;
 
 // A cutoff at half the rate or above is refused, and the buffer keeps its marks.

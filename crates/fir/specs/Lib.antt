@@ -1,10 +1,6 @@
-pub mod Windows
-pub mod StepLaws
 pub mod Outcome
 pub mod OutcomeLaws
 pub mod Lowpass
 pub mod Kept
 pub mod KeptLaws
 pub mod LowpassLaws
-pub mod Mirrored
-pub mod Waiting

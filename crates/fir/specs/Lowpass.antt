@@ -1,45 +1,24 @@
 -- The windowed-sinc low-pass of n taps with the cutoff fc, a fraction of the rate. Definitions only.
---   h[i] = 2 fc sinc(2 fc (i − m)) w[i],  m = (n − 1)/2,  sinc x = sin(π x)/(π x),  sinc 0 = 1;  tap i is h[i] / Σ h
-use Prim.Native.Nat.{ℕ, _-_}
+--   tap i is h[i] / Σ h, with the raw taps h of `raw_taps/Taps`
+use Prim.Native.Nat.{ℕ}
 use mathlib.Core.Bool.{Bool, true, cond, _&&_}
 use mathlib.Core.List.{List}
 use lib.Dec.{ltb, leb}
-use lib.Ieee.{Float, binary64, lt, le, eq, ne}
+use lib.Ieee.{Float, binary64, lt, le, ne}
 use lib.Ieee.Scale.{finite}
-use Rattle.laws.specs.Binary64.{_⊖_, _⊗_, _⊘_, whole, fraction, pi}
+use Rattle.laws.specs.Binary64.{_⊘_, whole, fraction}
 use Rattle.laws.specs.Filled.{tabulate}
 use Rattle.laws.specs.Sums.{sumTo}
 use Rattle.numbers.specs.Numbers.{positive}
 use Rattle.refusal.specs.declared.Refusal.the-variants.{Plain, Range}
-use Rattle.trig.specs.Trig.{sinOf}
 use Rattle.fir.specs.Outcome.{Outcome, Made, Turned}
-use Rattle.fir.specs.Windows.{normOf, windowAt}
-use Rattle.fir.specs.declared.window.Window.{Window}
-use Rattle.fir.specs.declared.window.Window.the-variants.{Hann, Hamming, Blackman, Kaiser}
+use Rattle.raw_taps.specs.Windows.{normOf}
+use Rattle.raw_taps.specs.Taps.{rawAt}
+use Rattle.raw_taps.specs.declared.window.Window.{Window}
+use Rattle.raw_taps.specs.declared.window.Window.the-variants.{Hann, Hamming, Blackman, Kaiser}
 use Rattle.fir.specs.declared.lowpass.Lowpass.{Lowpass}
 use Rattle.fir.specs.declared.lowpass.Designed.{Designed}
 use Rattle.fir.specs.declared.lowpass.Designed.the-variants.{Ready, Refused}
-
--- ---- the raw taps
-unfoldable pub sinc : Float → Float
-sinc x = cond (eq x (whole 0)) (whole 1) (sinOf (pi ⊗ x) ⊘ (pi ⊗ x))
-
--- the middle of n taps
-unfoldable pub centre : ℕ → Float
-centre n = whole (n - 1) ⊘ whole 2
-
--- where tap i lies in the sinc
-abbrev pub offsetAt : Float → ℕ → ℕ → Float
-offsetAt fc n i = whole 2 ⊗ fc ⊗ (whole i ⊖ centre n)
-
--- h[i] without its window
-abbrev pub idealAt : Float → ℕ → ℕ → Float
-idealAt fc n i = whole 2 ⊗ fc ⊗ sinc (offsetAt fc n i)
-
--- h[i], i0 being the series at the window's beta
-unfoldable pub rawAt : Float → Window → Float → ℕ → ℕ → Float
-unfolding sinc centre
-rawAt fc w i0 n i = idealAt fc n i ⊗ windowAt w i0 n i
 
 -- the last divisor: the sum of the raw taps by rising index
 unfoldable pub divisorOf : Float → Window → ℕ → Float

@@ -16,10 +16,12 @@ use Rattle.refusal.specs.declared.Refusal.{Refusal}
 use Rattle.refusal.specs.declared.Refusal.the-variants.{Plain, Range}
 use Rattle.fir.specs.Outcome.{Fills}
 use Rattle.fir.specs.OutcomeLaws as Outcome
-use Rattle.fir.specs.Windows.{normOf}
-use Rattle.fir.specs.Lowpass.{divisorOf, inside, countTaken, betaTaken, usable, lowpassOf, rawAt, tapWith, tapOf, tapsOf, outcomeOf}
-use Rattle.fir.specs.Kept.{KeepsOf, Keeps, Prepares}
-use Rattle.fir.specs.declared.window.Window.{Window}
+use Rattle.raw_taps.specs.Windows.{normOf}
+use Rattle.raw_taps.specs.Taps.{rawAt}
+use Rattle.raw_taps.specs.Kept.{KeepsOf}
+use Rattle.fir.specs.Lowpass.{divisorOf, inside, countTaken, betaTaken, usable, lowpassOf, tapWith, tapOf, tapsOf, outcomeOf}
+use Rattle.fir.specs.Kept.{Keeps, Prepares}
+use Rattle.raw_taps.specs.declared.window.Window.{Window}
 use Rattle.fir.specs.declared.lowpass.Lowpass.{Lowpass}
 use Rattle.fir.specs.declared.lowpass.Designed.{Designed}
 use Rattle.fir.specs.declared.lowpass.Designed.the-variants.{Ready, Refused}

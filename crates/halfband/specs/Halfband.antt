@@ -11,10 +11,10 @@ use Rattle.laws.specs.Binary64.{_⊘_, whole, fraction}
 use Rattle.laws.specs.Sums.{sumTo}
 use Rattle.refusal.specs.declared.Refusal.the-variants.{Plain}
 use Rattle.fir.specs.Outcome.{Outcome, Made, Turned}
-use Rattle.fir.specs.Windows.{normOf}
+use Rattle.raw_taps.specs.Windows.{normOf}
 use Rattle.fir.specs.Lowpass as Lowpass
 use Rattle.fir.specs.Kept.{Keeps}
-use Rattle.fir.specs.declared.window.Window.the-variants.{Kaiser}
+use Rattle.raw_taps.specs.declared.window.Window.the-variants.{Kaiser}
 use Rattle.fir.specs.declared.lowpass.Lowpass.{Lowpass}
 use Rattle.fir.specs.declared.lowpass.Designed.{Designed}
 use Rattle.fir.specs.declared.lowpass.Designed.the-variants as Designed

@@ -9,7 +9,7 @@ use lib.Ieee.{Float}
 use Rattle.laws.specs.Binary64.{_⊘_}
 use Rattle.refusal.specs.declared.Refusal.{Refusal}
 use Rattle.refusal.specs.declared.Refusal.the-variants.{Plain}
-use Rattle.fir.specs.Windows.{normOf}
+use Rattle.raw_taps.specs.Windows.{normOf}
 use Rattle.fir.specs.Lowpass.{usable}
 use Rattle.fir.specs.Kept.{Keeps}
 use Rattle.fir.specs.declared.lowpass.Lowpass.{Lowpass}

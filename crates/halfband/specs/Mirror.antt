@@ -13,7 +13,7 @@ use lib.Ieee.Scale.{round-same}
 use Rattle.laws.specs.Binary64.{_⊘_, whole}
 use Rattle.fir.specs.Lowpass.{usable, tapWith}
 use Rattle.fir.specs.declared.lowpass.Lowpass.{Lowpass}
-use Rattle.fir.specs.Windows.{normOf}
+use Rattle.raw_taps.specs.Windows.{normOf}
 use Rattle.halfband.specs.Halfband.{distance, vanishes, unscaledWith, unscaled, divisorOf, halfbandOf, tapOf}
 use Rattle.halfband.specs.HalfbandLaws.{tap-is, halved, accepted}
 use Rattle.halfband.specs.Distance.{taken-odd, mirror-lesser, mirror-distance, vanishes-alike, vanishes-at}

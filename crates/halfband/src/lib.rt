@@ -2,7 +2,7 @@
 use fir::lowpass::Designed;
 use fir::lowpass::Lowpass;
 use fir::lowpass::is_usable;
-use fir::window::Window;
+use raw_taps::window::Window;
 use refusal::Refusal;
 ghost use mathlib.Core.Path.{_≡_};
 ghost use Prim.Native.Nat.{_<_};
@@ -149,6 +149,6 @@ impl HalfbandDesign {
         let none = [0.0f64; 0];
         let lp = self.lp;
         let w = lp.window;
-        kept_tap(self, fir::window::norm(w), &none, k)
+        kept_tap(self, raw_taps::window::norm(w), &none, k)
     }
 }

@@ -10,7 +10,7 @@ use Rattle.laws.specs.Binary64.{_⊖_, _⊗_, _⊘_, whole, fraction, pi, ln2}
 use Rattle.laws.specs.Sums.{sumTo}
 use Rattle.power.specs.Exp.{expOf}
 use Rattle.refusal.specs.declared.Refusal.the-variants.{Range, Length}
-use Rattle.fir.specs.Kept.{KeepsOf}
+use Rattle.raw_taps.specs.Kept.{KeepsOf}
 use Rattle.fir.specs.Outcome.{Outcome, Made, Turned}
 use Rattle.pulses.specs.declared.gaussian_design.Gaussian.{Gaussian}
 use Rattle.pulses.specs.declared.gaussian_design.GaussianDesigned.{GaussianDesigned}

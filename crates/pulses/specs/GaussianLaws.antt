@@ -11,7 +11,7 @@ use lib.ListN.{length, getD}
 use lib.Ieee.{Float, nan}
 use Rattle.laws.specs.Binary64.{_⊘_, whole, fraction}
 use Rattle.laws.specs.Tests.{both}
-use Rattle.fir.specs.Kept.{Totals}
+use Rattle.raw_taps.specs.Kept.{Totals}
 use Rattle.refusal.specs.declared.Refusal.{Refusal}
 use Rattle.refusal.specs.declared.Refusal.the-variants.{Range, Length}
 use Rattle.pulses.specs.Gaussian.{exponent, rawAt, btTaken, spanTaken, samplesTaken, madeOf, gaussianOf, fittedOf, tapOf, Keeps, Prepares}

@@ -1,9 +1,9 @@
 // The design of the Gaussian pulse of GFSK and GMSK: judged first, then its taps one at a time.
-use fir::lowpass::keep;
+use raw_taps::sum::keep;
 use refusal::Refusal;
 ghost use mathlib.Core.Path.{_≡_};
 ghost use Prim.Native.Nat.{_^_, _<_, _≤_};
-ghost use Rattle.fir.specs.Kept.{Totals};
+ghost use Rattle.raw_taps.specs.Kept.{Totals};
 ghost use Rattle.pulses.specs.Gaussian.{btTaken, spanTaken, samplesTaken, rawAt, gaussianOf, fittedOf, tapOf, Keeps, Prepares};
 
 const PI: f64 = 3.141592653589793;

@@ -9,10 +9,11 @@ use lib.Ieee.Fits.{cond-fits, mul-fits, div-fits, ofInt-fits, nan-fits}
 use Rattle.laws.specs.Binary64.{_⊘_, whole}
 use Rattle.laws.specs.Floor.{floorZ}
 use Rattle.power.specs.Exp.{doublings, rest, expSeries, twoTo, expOf}
-use Rattle.fir.specs.Windows.{normOf}
+use Rattle.raw_taps.specs.Windows.{normOf}
+use Rattle.raw_taps.specs.Taps.{rawAt}
 use Rattle.fir.specs.Lowpass as Lowpass
 use Rattle.fir.specs.LowpassLaws.{ready-is, count-least, count-most}
-use Rattle.fir.specs.declared.window.Window.{Window}
+use Rattle.raw_taps.specs.declared.window.Window.{Window}
 use Rattle.fir.specs.declared.lowpass.Lowpass.{Lowpass}
 use Rattle.fir.specs.declared.lowpass.Designed.the-variants as Designed
 use Rattle.halfband.specs.Halfband as Halfband
@@ -29,11 +30,11 @@ nought-fits : T (fits binary64 (whole 0))
 nought-fits = ofInt-fits binary64 _
 
 -- ---- the low-pass
-lowpass-raw-fits : (fc : Float) (w : Window) (i0 : Float) (n i : ℕ) → T (fits binary64 (Lowpass.rawAt fc w i0 n i))
-unfolding Lowpass.rawAt
+lowpass-raw-fits : (fc : Float) (w : Window) (i0 : Float) (n i : ℕ) → T (fits binary64 (rawAt fc w i0 n i))
+unfolding rawAt
 lowpass-raw-fits fc w i0 n i = mul-fits binary64 _ _
 
-lowpass-tap-is : (l : Lowpass) → l .n ≤ 16777216 → (i : ℕ) → i < l .n → Lowpass.tapOf l i ≡ Lowpass.rawAt (l .fc) (l .window) (normOf (l .window)) (l .n) i ⊘ l .sum
+lowpass-tap-is : (l : Lowpass) → l .n ≤ 16777216 → (i : ℕ) → i < l .n → Lowpass.tapOf l i ≡ rawAt (l .fc) (l .window) (normOf (l .window)) (l .n) i ⊘ l .sum
 unfolding Lowpass.tapOf Lowpass.tapWith
 lowpass-tap-is l k i h = rw (le-ltb 16777216 (l .n) k, lt-ltb i (l .n) h)
 
@@ -54,7 +55,7 @@ lowpass-normalised cutoff rate w n l e =
     let made : Lowpass = record { n = n; fc = fc; window = w; sum = Lowpass.divisorOf fc w n } in
     subst (λ (z : Lowpass). Normalised (z .n) (z .sum) (Lowpass.tapOf z)) (sym (a .is))
     (record {
-      raw = Lowpass.rawAt fc w (normOf w) n;
+      raw = rawAt fc w (normOf w) n;
       some = count-least n (a .counted);
       most = k;
       fit = lowpass-raw-fits fc w (normOf w) n;

@@ -25,7 +25,7 @@ use Rattle.series.specs.Series.{seriesOf}
 use Rattle.kaiser.specs.Kaiser.{betaOf, orderOf}
 use Rattle.conversions.specs.Q15.{moved, takes}
 use Rattle.fir.specs.Outcome.{Outcome, Made, Turned}
-use Rattle.fir.specs.Windows.{windowAt, normOf}
+use Rattle.raw_taps.specs.Windows.{windowAt, normOf}
 use Rattle.fir.specs.Lowpass as Lowpass
 use Rattle.design.specs.Spec.{specOrderOf, specDesignOf}
 use Rattle.halfband.specs.Halfband as Halfband

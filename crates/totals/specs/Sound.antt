@@ -18,8 +18,8 @@ use Rattle.kaiser.specs.declared.order.Order.the-variants as Order
 use Rattle.fir.specs.Outcome.{Outcome, Made, Turned}
 use Rattle.fir.specs.Lowpass as Lowpass
 use Rattle.design.specs.Spec.{cutoffTaken, cappedOf, specOrderOf, designIn, specDesignOf}
-use Rattle.fir.specs.declared.window.Window.{Window}
-use Rattle.fir.specs.declared.window.Window.the-variants.{Kaiser}
+use Rattle.raw_taps.specs.declared.window.Window.{Window}
+use Rattle.raw_taps.specs.declared.window.Window.the-variants.{Kaiser}
 use Rattle.fir.specs.declared.lowpass.Designed.{Designed}
 use Rattle.fir.specs.declared.lowpass.Designed.the-variants as Designed
 use Rattle.design.specs.declared.DesignSpec.{DesignSpec}

@@ -3,8 +3,8 @@ use expect::answers::infinity;
 use expect::answers::near;
 use expect::tell::Counts;
 use expect::tell::example;
-use windows::fill::fill_f32;
 use gain::window_gain;
+use windows::fill::fill_f32;
 use windows::shape::Shape;
 use windows::shape::Symmetry;
 

@@ -5,7 +5,7 @@ use Prim.Native.Nat.{ℕ}
 use lib.Dec.{eqb}
 use lib.Ieee.{Float}
 use Rattle.laws.specs.Binary64.{whole}
-use Rattle.fir.specs.Windows.{kaiserAt}
+use Rattle.raw_taps.specs.Windows.{kaiserAt}
 use Rattle.windows.specs.declared.shape.Shape.{Shape}
 use Rattle.windows.specs.declared.shape.Shape.the-variants.{Hann, BlackmanHarris, Kaiser}
 use Rattle.windows.specs.Shapes.{shapeAt, sampleAt, placeAt, argumentOf, valueOf, valueAt}

@@ -14,7 +14,7 @@ use Rattle.laws.specs.Filled.{tabulate}
 use Rattle.trig.specs.Trig.{cosOf}
 use Rattle.series.specs.Series.{seriesOf}
 use Rattle.refusal.specs.declared.Refusal.the-variants.{Plain}
-use Rattle.fir.specs.Windows.{angle, kaiserRadicand, kaiserArgument, kaiserValue, kaiserAt}
+use Rattle.raw_taps.specs.Windows.{angle, kaiserRadicand, kaiserArgument, kaiserValue, kaiserAt}
 use Rattle.fir.specs.declared.lowpass.Filled.{Filled}
 use Rattle.fir.specs.declared.lowpass.Filled.the-variants as Filled
 use Rattle.windows.specs.declared.shape.Shape.{Shape}

@@ -70,7 +70,7 @@ pub fn place_at(shape: Shape, divisor: u64, i: u64) -> f64
     match shape {
         Shape::Hann => 2.0 * PI * p / d,
         Shape::BlackmanHarris => 2.0 * PI * p / d,
-        Shape::Kaiser(_) => fir::window::kaiser_radicand(p, d),
+        Shape::Kaiser(_) => raw_taps::window::kaiser_radicand(p, d),
     }
 }
 
@@ -81,7 +81,7 @@ pub fn argument_of(shape: Shape, place: f64) -> f64
     match shape {
         Shape::Hann => place,
         Shape::BlackmanHarris => place,
-        Shape::Kaiser(beta) => fir::window::kaiser_argument(beta, place),
+        Shape::Kaiser(beta) => raw_taps::window::kaiser_argument(beta, place),
     }
 }
 
@@ -90,7 +90,7 @@ pub fn arguments_of(shape: Shape, place: f64, other: f64) -> Pair
     ensures { λ r. ⌜ r .first ≡ argumentOf shape place ⌝ ∗ ⌜ r .second ≡ argumentOf shape other ⌝ }
 {
     match shape {
-        Shape::Kaiser(beta) => fir::window::kaiser_arguments(beta, place, other),
+        Shape::Kaiser(beta) => raw_taps::window::kaiser_arguments(beta, place, other),
         _ => Pair {
             first: argument_of(shape, place),
             second: argument_of(shape, other),
@@ -105,7 +105,7 @@ fn value_of(shape: Shape, i0: f64, x: f64) -> f64
     match shape {
         Shape::Hann => 0.5 - 0.5 * trig::cos::cos(x),
         Shape::BlackmanHarris => harris_at(x),
-        Shape::Kaiser(_) => fir::window::kaiser_value(i0, x),
+        Shape::Kaiser(_) => raw_taps::window::kaiser_value(i0, x),
     }
 }
 
@@ -114,7 +114,7 @@ fn values_of(shape: Shape, i0: f64, x: f64, y: f64) -> Pair
     ensures { λ r. ⌜ r .first ≡ valueOf shape i0 x ⌝ ∗ ⌜ r .second ≡ valueOf shape i0 y ⌝ }
 {
     match shape {
-        Shape::Kaiser(_) => fir::window::kaiser_values(i0, x, y),
+        Shape::Kaiser(_) => raw_taps::window::kaiser_values(i0, x, y),
         _ => Pair {
             first: value_of(shape, i0, x),
             second: value_of(shape, i0, y),

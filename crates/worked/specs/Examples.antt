@@ -19,16 +19,16 @@ use Rattle.kaiser.specs.declared.order.Order.{Order}
 use Rattle.kaiser.specs.declared.order.Order.the-variants as Order
 use Rattle.refusal.specs.declared.Refusal.{Refusal}
 use Rattle.refusal.specs.declared.Refusal.the-variants as Why
-use Rattle.fir.specs.Windows.{windowAt, normOf}
+use Rattle.raw_taps.specs.Windows.{windowAt, normOf}
 use Rattle.fir.specs.Lowpass.{lowpassOf, tapOf}
-use Rattle.fir.specs.declared.window.Window.the-variants.{Hann}
+use Rattle.raw_taps.specs.declared.window.Window.the-variants.{Hann}
 use Rattle.fir.specs.declared.lowpass.Designed.{Designed}
 use Rattle.fir.specs.declared.lowpass.Designed.the-variants as Designed
 use Rattle.halfband.specs.Halfband.{lengthTaken, halfbandOf}
 use Rattle.halfband.specs.declared.HalfbandDesigned.{HalfbandDesigned}
 use Rattle.halfband.specs.declared.HalfbandDesigned.the-variants as HalfbandDesigned
 use Rattle.conversions.specs.Q15.{moved, takes, q15Of, q15TapOf}
-use Rattle.conversions.specs.Q14 as Q14
+use Rattle.q14.specs.Q14 as Q14
 use Rattle.conversions.specs.declared.q15.Coded.{Coded}
 use Rattle.conversions.specs.declared.q15.Coded.the-variants as Coded
 use Rattle.kaiser.specs.declared.order.Length.{Length}

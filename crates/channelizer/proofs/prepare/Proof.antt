@@ -9,7 +9,7 @@ use lib.Ieee.{Float, ofBits, ofInt}
 use Rattle.laws.specs.Binary64.{_⊕_, _⊗_, _⊘_, whole}
 use Rattle.fir.specs.Lowpass.{lowpassOf}
 use Rattle.fir.specs.LowpassLaws.{prepares-as}
-use Rattle.fir.specs.declared.window.Window.the-variants.{Kaiser}
+use Rattle.raw_taps.specs.declared.window.Window.the-variants.{Kaiser}
 use Rattle.channelizer.specs.Channelizer.{channelsTaken, branchTaken, edgesOf, lowpassIn, channelizerLowpassOf}
 use Rattle.channelizer.specs.ChannelizerLaws.{prototypeOf, product-most, by-edges, no-branch, no-channels, refuses}
 use Rattle.channelizer.specs.declared.Checked.{Checked}

@@ -3,7 +3,7 @@ use mathlib.Core.Path.{sym, ap, _∙_}
 use Prim.Native.Nat.{ℕ, _/_}
 use borrow.Author.Needs.{needs}
 use lib.ListN.{length}
-use Rattle.fir.specs.declared.window.Window.{Window}
+use Rattle.raw_taps.specs.declared.window.Window.{Window}
 use Rattle.fir.specs.Outcome.{Outcome}
 use Rattle.fir.specs.Lowpass.{lowpassOf, outcomeOf}
 use Rattle.border.specs.Lowpass.{lowpassBytes}

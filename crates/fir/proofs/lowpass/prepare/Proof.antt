@@ -7,7 +7,9 @@ use lib.Ieee.{Float, binary64, ofBits, ofInt}
 use Rattle.laws.specs.Binary64.{_⊘_}
 use Rattle.laws.specs.Sums.{sumTo}
 use Rattle.numbers.specs.Numbers.{positive}
-use Rattle.fir.specs.Lowpass.{rawAt, divisorOf, inside, countTaken, betaTaken, usable}
+use Rattle.raw_taps.specs.Taps.{rawAt}
+use Rattle.raw_taps.specs.Kept.{Totals}
+use Rattle.fir.specs.Lowpass.{divisorOf, inside, countTaken, betaTaken, usable}
 use Rattle.fir.specs.LowpassLaws.{count-least, count-most, ready, no-divisor, no-beta, no-count, no-cutoff, no-rate, refuses, accepts}
 use Rattle.fir.proofs.lowpass.prepare.Statement.{statement}
 use Rattle.fir.proofs.lowpass.prepare.Tie as tie
@@ -59,17 +61,20 @@ past4 : (c : tie.Else4) → betaTaken (c .before .before .before .before .before
 past4 c = sym (c .before .takes-beta .ensures) ∙ not-false _ (c .if4 .left)
 
 total-requires : tie.Need-total-requires
-total-requires c κs = (count-least (c .before .before .before .before .before .before .before .before .before .before .before .args .n) (past3 (c .before .before .before .before)), count-most (c .before .before .before .before .before .before .before .before .before .before .before .args .n) (past3 (c .before .before .before .before)))
+total-requires c κs = tt
 
 -- the sum is the definition's divisor
 abbrev start : tie.After-total → tie.Start
 start c = c .before .before .before .before .before .before .before .before .before .before .before .before
 
+totals : (c : tie.After-total) → Totals (rawAt (start c .args .cutoff ⊘ start c .args .rate) (start c .args .window) (c .before .before .norm .result) (start c .args .n)) (start c .args .n) (c .total .result) (c .total .last .1 .1 .1 .1 .0)
+totals c = let e = past3 (c .before .before .before .before .before) in c .total .ensures (count-least (start c .args .n) e) (count-most (start c .args .n) e)
+
 divided : (c : tie.After-total) → c .total .result ≡ divisorOf (start c .args .cutoff ⊘ start c .args .rate) (start c .args .window) (start c .args .n)
 unfolding divisorOf
 divided c =
     let a = start c .args in
-    c .total .ensures .is ∙ ap (λ (z : Float). sumTo binary64 (rawAt (a .cutoff ⊘ a .rate) (a .window) z (a .n)) (a .n)) (c .before .before .norm .ensures)
+    totals c .is ∙ ap (λ (z : Float). sumTo binary64 (rawAt (a .cutoff ⊘ a .rate) (a .window) z (a .n)) (a .n)) (c .before .before .norm .ensures)
 
 returns : tie.Need-returns
 returns c =
@@ -117,7 +122,7 @@ returns-6 c =
     let e2 = e3 .before .before in
     let e1 = e2 .before .before in
     let a = e1 .before .before .before .args in
-    accepts (a .cutoff) (a .rate) (a .window) (a .n) (t .total .result) (t .before .before .norm .result) _ (divided t) (t .before .before .norm .ensures) (t .total .ensures .keeps)
+    accepts (a .cutoff) (a .rate) (a .window) (a .n) (t .total .result) (t .before .before .norm .result) _ (divided t) (t .before .before .norm .ensures) (totals t .keeps)
     (ready (a .cutoff) (a .rate) (a .window) (a .n) (past1 e1) (past2 e2) (past3 e3) (past4 e4) (ap usable (sym (divided t)) ∙ sym (c .before .is-usable .ensures) ∙ not-false _ (c .if5 .left)))
 
 same-length : tie.Need-same-length

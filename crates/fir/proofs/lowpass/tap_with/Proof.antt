@@ -7,8 +7,8 @@ use Rattle.fir.specs.Lowpass.{tapWith}
 use Rattle.fir.proofs.lowpass.tap_with.Statement.{statement}
 use Rattle.fir.proofs.lowpass.tap_with.Tie as tie
 
-raw-at-requires : tie.Need-raw-at-requires
-raw-at-requires c κs = search needs
+raw-tap-requires : tie.Need-raw-tap-requires
+raw-tap-requires c κs = search needs
 
 returns : tie.Need-returns
 unfolding tapWith ofInt ofBits
@@ -18,7 +18,9 @@ returns-2 : tie.Need-returns-2
 unfolding tapWith ofInt ofBits
 returns-2 c =
     let at = c .before .before .before .before .args in
-    rw (c .before .raw-at .ensures) (sym (rw (le-ltb 16777216 (at .lp .n) (c .before .before .before .if1 .left), lt-ltb (at .i) (at .lp .n) (c .before .before .if2 .taken))))
+    let few = c .before .before .before .if1 .left in
+    let within = c .before .before .if2 .taken in
+    rw (c .before .raw-tap .ensures few within) (sym (rw (le-ltb 16777216 (at .lp .n) few, lt-ltb (at .i) (at .lp .n) within)))
 
 returns-3 : tie.Need-returns-3
 unfolding tapWith ofInt ofBits
@@ -27,4 +29,4 @@ returns-3 c =
     sym (rw (le-ltb 16777216 (at .lp .n) (c .before .if1 .left), le-ltb (at .i) (at .lp .n) (c .if2 .left)))
 
 pub tap-with-spec : {M : Type 1} → statement M
-tap-with-spec = tie.close (tie.spec returns raw-at-requires returns-2 returns-3)
+tap-with-spec = tie.close (tie.spec returns raw-tap-requires returns-2 returns-3)

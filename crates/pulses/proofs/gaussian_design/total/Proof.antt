@@ -5,8 +5,8 @@ use Prim.Native.Nat.{ℕ, _+_, _≤_, _-_}
 use native.Mathlib.Omega.{arith}
 use lib.ListN.{length, length-set}
 use lib.Ieee.{Float, binary64, add}
-use Rattle.fir.specs.Kept.{Totals}
-use Rattle.fir.specs.KeptLaws.{totals-none, totals-more}
+use Rattle.raw_taps.specs.Kept.{Totals}
+use Rattle.raw_taps.specs.KeptLaws.{totals-none, totals-more}
 use Rattle.pulses.specs.Gaussian.{rawAt}
 use Rattle.pulses.proofs.gaussian_design.total.Statement.{statement}
 use Rattle.pulses.proofs.gaussian_design.total.Tie as tie

@@ -3,7 +3,7 @@ use mathlib.Core.Path.{_≡_, sym, _∙_}
 use borrow.Author.Needs.{needs}
 use lib.Ieee.{ofBits, ofInt, round}
 use Rattle.laws.specs.Binary64.{whole}
-use Rattle.fir.specs.Windows.{angle}
+use Rattle.raw_taps.specs.Windows.{angle}
 use Rattle.windows.specs.Shapes.{placeAt}
 use Rattle.windows.proofs.shape.place_at.Statement.{statement}
 use Rattle.windows.proofs.shape.place_at.Tie as tie

@@ -1,0 +1,2 @@
+pub mod Q14
+pub mod Q14Laws
