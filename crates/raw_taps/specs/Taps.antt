@@ -2,6 +2,7 @@
 --   h[i] = 2 fc sinc(2 fc (i − m)) w[i],  m = (n − 1)/2,  sinc x = sin(π x)/(π x),  sinc 0 = 1
 use Prim.Native.Nat.{ℕ, _-_}
 use mathlib.Core.Bool.{cond}
+use lib.Dec.{ltb}
 use lib.Ieee.{Float, eq}
 use Rattle.laws.specs.Binary64.{_⊖_, _⊗_, _⊘_, whole, pi}
 use Rattle.trig.specs.Trig.{sinOf}
@@ -27,3 +28,8 @@ idealAt fc n i = whole 2 ⊗ fc ⊗ sinc (offsetAt fc n i)
 unfoldable pub rawAt : Float → Window → Float → ℕ → ℕ → Float
 unfolding sinc centre
 rawAt fc w i0 n i = idealAt fc n i ⊗ windowAt w i0 n i
+
+-- the same for any numbers: 0 past the last tap, and for more taps than 2^24
+unfoldable pub rawWithin : Float → Window → Float → ℕ → ℕ → Float
+unfolding rawAt
+rawWithin fc w i0 n i = cond (ltb 16777216 n) (whole 0) (cond (ltb i n) (rawAt fc w i0 n i) (whole 0))

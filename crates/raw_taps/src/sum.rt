@@ -13,7 +13,7 @@ ghost use mathlib.Core.Bool.{true};
 ghost use Prim.Native.Nat.{_+_, _-_, _^_, _<_, _≤_};
 ghost use lib.ListN.{length, set};
 ghost use lib.Ieee.{binary64};
-ghost use Rattle.laws.specs.Binary64.{_⊕_, _⊗_};
+ghost use Rattle.laws.specs.Binary64.{_⊕_, whole};
 ghost use Rattle.laws.specs.Sums.{sumTo};
 ghost use Rattle.raw_taps.specs.Windows.{windowAt};
 ghost use Rattle.raw_taps.specs.Taps.{sinc, idealAt, rawAt};
@@ -276,14 +276,15 @@ fn summed(fc: f64, w: Window, i0: f64, n: u64, raws: &mut [f64]) -> f64
     }
 }
 
-// The same for a caller that has not tested n: 0 for no taps, and for more than a design takes.
+// The same for any n: 0 for no taps; and for more than a design takes 0, with `raws` as it came.
 pub fn total(fc: f64, w: Window, i0: f64, n: u64, raws: &mut [f64]) -> f64
-    ensures { λ r. ⌜ (0 < n → n ≤ 2 ^ 24 → Totals (rawAt fc w i0 n) n r (now (raws .exit))) ⌝ }
+    ensures { λ r. ⌜ (n ≤ 2 ^ 24 → Totals (rawAt fc w i0 n) n r (now (raws .exit))) ⌝ ∗ ⌜ (2 ^ 24 < n → r ≡ whole 0) ⌝ ∗ ⌜ (2 ^ 24 < n → now (raws .exit) ≡ now (raws .entry)) ⌝ }
 {
-    if 0 < n {
-        if n <= TAP_LIMIT {
-            return summed(fc, w, i0, n, &mut *raws);
-        }
+    if n > TAP_LIMIT {
+        return 0.0;
     }
-    0.0
+    if n == 0 {
+        return 0.0;
+    }
+    summed(fc, w, i0, n, &mut *raws)
 }

@@ -3,7 +3,7 @@ use super::window::Window;
 use super::window::window_at;
 ghost use mathlib.Core.Path.{_≡_};
 ghost use Prim.Native.Nat.{_^_, _<_, _≤_};
-ghost use Rattle.raw_taps.specs.Taps.{sinc, offsetAt, idealAt, rawAt};
+ghost use Rattle.raw_taps.specs.Taps.{sinc, offsetAt, idealAt, rawAt, rawWithin};
 
 const PI: f64 = 3.141592653589793;
 
@@ -46,14 +46,12 @@ pub(crate) fn raw_at(fc: f64, w: Window, i0: f64, n: u64, i: u64) -> f64
     ideal_at(fc, n, i) * window_at(w, i0, n, i)
 }
 
-// The same for a caller that has not tested the numbers: 0 past the last tap, and for more taps than a design takes.
+// The same for any numbers: 0 past the last tap, and for more taps than a design takes.
 pub fn raw_tap(fc: f64, w: Window, i0: f64, n: u64, i: u64) -> f64
-    ensures { λ r. ⌜ (n ≤ 2 ^ 24 → i < n → r ≡ rawAt fc w i0 n i) ⌝ }
+    ensures { λ r. ⌜ r ≡ rawWithin fc w i0 n i ⌝ }
 {
-    if n <= TAP_LIMIT {
-        if i < n {
-            return raw_at(fc, w, i0, n, i);
-        }
+    if n > TAP_LIMIT {
+        return 0.0;
     }
-    0.0
+    if i < n { raw_at(fc, w, i0, n, i) } else { 0.0 }
 }

@@ -1,6 +1,5 @@
 -- `fir::lowpass::kept_tap` meets its contract: a raw tap that was kept is the one worked out. Assumes nothing.
 use Rattle.fir.specs.KeptLaws.{kept-is}
-use native.Mathlib.Omega.{arith}
 use borrow.Author.Needs.{needs}
 use Rattle.fir.proofs.lowpass.kept_tap.Statement.{statement}
 use Rattle.fir.proofs.lowpass.kept_tap.Tie as tie

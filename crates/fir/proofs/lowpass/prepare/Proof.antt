@@ -10,7 +10,7 @@ use Rattle.numbers.specs.Numbers.{positive}
 use Rattle.raw_taps.specs.Taps.{rawAt}
 use Rattle.raw_taps.specs.Kept.{Totals}
 use Rattle.fir.specs.Lowpass.{divisorOf, inside, countTaken, betaTaken, usable}
-use Rattle.fir.specs.LowpassLaws.{count-least, count-most, ready, no-divisor, no-beta, no-count, no-cutoff, no-rate, refuses, accepts}
+use Rattle.fir.specs.LowpassLaws.{count-most, ready, no-divisor, no-beta, no-count, no-cutoff, no-rate, refuses, accepts}
 use Rattle.fir.proofs.lowpass.prepare.Statement.{statement}
 use Rattle.fir.proofs.lowpass.prepare.Tie as tie
 
@@ -68,7 +68,7 @@ abbrev start : tie.After-total → tie.Start
 start c = c .before .before .before .before .before .before .before .before .before .before .before .before
 
 totals : (c : tie.After-total) → Totals (rawAt (start c .args .cutoff ⊘ start c .args .rate) (start c .args .window) (c .before .before .norm .result) (start c .args .n)) (start c .args .n) (c .total .result) (c .total .last .1 .1 .1 .1 .0)
-totals c = let e = past3 (c .before .before .before .before .before) in c .total .ensures (count-least (start c .args .n) e) (count-most (start c .args .n) e)
+totals c = c .total .ensures .0 (count-most (start c .args .n) (past3 (c .before .before .before .before .before)))
 
 divided : (c : tie.After-total) → c .total .result ≡ divisorOf (start c .args .cutoff ⊘ start c .args .rate) (start c .args .window) (start c .args .n)
 unfolding divisorOf

@@ -1,8 +1,9 @@
 -- `fir::lowpass::tap_with` meets its contract. Assumes nothing.
 use borrow.Author.Needs.{needs}
-use mathlib.Core.Path.{sym}
+use mathlib.Core.Path.{refl, sym}
 use lib.Ieee.{ofBits, ofInt}
 use borrow.Author.Tests.{lt-ltb, le-ltb}
+use Rattle.raw_taps.specs.Taps.{rawWithin}
 use Rattle.fir.specs.Lowpass.{tapWith}
 use Rattle.fir.proofs.lowpass.tap_with.Statement.{statement}
 use Rattle.fir.proofs.lowpass.tap_with.Tie as tie
@@ -15,12 +16,12 @@ unfolding tapWith ofInt ofBits
 returns c = sym (rw (lt-ltb 16777216 (c .before .args .lp .n) (c .if1 .taken)))
 
 returns-2 : tie.Need-returns-2
-unfolding tapWith ofInt ofBits
+unfolding tapWith rawWithin ofInt ofBits
 returns-2 c =
     let at = c .before .before .before .before .args in
     let few = c .before .before .before .if1 .left in
     let within = c .before .before .if2 .taken in
-    rw (c .before .raw-tap .ensures few within) (sym (rw (le-ltb 16777216 (at .lp .n) few, lt-ltb (at .i) (at .lp .n) within)))
+    rw (c .before .raw-tap .ensures, le-ltb 16777216 (at .lp .n) few, lt-ltb (at .i) (at .lp .n) within) refl
 
 returns-3 : tie.Need-returns-3
 unfolding tapWith ofInt ofBits

@@ -1,7 +1,5 @@
 -- `fir::lowpass::Lowpass::new` meets its contract. Assumes nothing.
 use mathlib.Core.Path.{refl}
-use native.Mathlib.Omega.{arith}
-use borrow.Author.Needs.{needs}
 use Rattle.fir.proofs.lowpass.Lowpass.new.Statement.{statement}
 use Rattle.fir.proofs.lowpass.Lowpass.new.Tie as tie
 
