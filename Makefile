@@ -5,7 +5,7 @@ STRICT = -std=c11 -Wall -Wextra -Werror -Iinclude
 CHECKED = -g -O1 -fsanitize=address,undefined -fno-sanitize-recover=all
 LIB = target/lib/libpeldozkar.a
 # The crates with exports: each makes one object, and the library holds them all.
-EXPORTS = border border_kinds border_windows border_formats border_sections border_numbers border_gain
+EXPORTS = c_lowpass c_pulses c_windows c_formats c_sections c_math c_gain
 # How many objects are made at once.
 JOBS = $(shell nproc 2>/dev/null || echo 1)
 # All crates that those rest on, by crates.txt.

@@ -5,9 +5,9 @@ use expect::answers::same;
 use expect::singles::equal;
 use expect::tell::Counts;
 use expect::tell::example;
-use refusal::Refusal;
-use singles::slices::to_f32;
-use singles::slices::to_f32_sos;
+use verdict::Refusal;
+use fmt_f32::slices::to_f32;
+use fmt_f32::slices::to_f32_sos;
 
 pub fn converted(mut c: Counts) -> Counts {
     let mut three = [7.5f32; 3];

@@ -1,5 +1,5 @@
 // Examples of coefficients as Q14 numbers.
-use conversions::q15::Coded;
+use fmt_q15::q15::Coded;
 use expect::answers::nan;
 use expect::answers::of_converted;
 use expect::answers::same;
@@ -7,9 +7,9 @@ use expect::codes::equal;
 use expect::codes::is_number;
 use expect::tell::Counts;
 use expect::tell::example;
-use q14::q14_from_f64;
-use q14::to_q14;
-use refusal::Refusal;
+use fmt_q14::q14_from_f64;
+use fmt_q14::to_q14;
+use verdict::Refusal;
 
 // The largest Q14 number, 2 - 2^-14.
 const MOST: f64 = 1.99993896484375;

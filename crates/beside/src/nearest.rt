@@ -4,8 +4,8 @@ use expect::answers::nan;
 use expect::singles::has_bits;
 use expect::tell::Counts;
 use expect::tell::example;
-use singles::narrow::narrow;
-use singles::narrow::pattern_of;
+use fmt_f32::narrow::narrow;
+use fmt_f32::narrow::pattern_of;
 
 // Half of the smallest f32, and three halves: 2^-150 and 3 · 2^-150.
 const HALF: f64 = 7.006492321624085e-46;

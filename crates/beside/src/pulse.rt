@@ -1,5 +1,5 @@
 // Examples of the root-raised-cosine pulse.
-use buffered::rrc::rrc;
+use ticket_slices::rrc::rrc;
 use expect::answers::nan;
 use expect::answers::near;
 use expect::answers::none;
@@ -11,10 +11,10 @@ use expect::taps::all_are;
 use expect::taps::others_below;
 use expect::tell::Counts;
 use expect::tell::example;
-use raised::design::Rrc;
-use raised::design::RrcDesigned;
-use raised::design::rrc_len;
-use refusal::Refusal;
+use fir_rrc::design::Rrc;
+use fir_rrc::design::RrcDesigned;
+use fir_rrc::design::rrc_len;
+use verdict::Refusal;
 
 // Whether a pulse has so many taps.
 fn has(sps: u64, span: u64, n: u64) -> bool {

@@ -3,7 +3,7 @@ use expect::answers::nan;
 use expect::answers::near;
 use expect::tell::Counts;
 use expect::tell::example;
-use series::bessel_i0;
+use math_bessel::bessel_i0;
 
 pub fn terms(mut c: Counts) -> Counts {
     let zero = bessel_i0(0.0);

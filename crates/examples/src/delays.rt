@@ -1,11 +1,11 @@
 // Examples of the delay of a filter.
-use delay::Delayed;
-use delay::delay;
+use fir_delay::Delayed;
+use fir_delay::delay;
 use expect::answers::none;
 use expect::answers::same;
 use expect::tell::Counts;
 use expect::tell::example;
-use refusal::Refusal;
+use verdict::Refusal;
 
 fn of_delayed(d: Delayed) -> Refusal {
     match d {

@@ -6,11 +6,11 @@ use expect::answers::same;
 use expect::answers::taps;
 use expect::tell::Counts;
 use expect::tell::example;
-use kaiser::beta::kaiser_beta;
-use kaiser::order::Order;
-use kaiser::order::halfband_len;
-use kaiser::order::kaiserord;
-use refusal::Refusal;
+use fir_length::beta::kaiser_beta;
+use fir_length::order::Order;
+use fir_length::order::halfband_len;
+use fir_length::order::kaiserord;
+use verdict::Refusal;
 
 // The taps of an order, 0 where it is refused: no order has 0.
 fn order_taps(o: Order) -> u64 {

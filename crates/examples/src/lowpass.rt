@@ -9,11 +9,11 @@ use expect::taps::all_are;
 use expect::taps::sum;
 use expect::tell::Counts;
 use expect::tell::example;
-use fir::lowpass::Designed;
-use fir::lowpass::Lowpass;
-use fir::lowpass::firwin_lowpass;
-use raw_taps::window::Window;
-use refusal::Refusal;
+use fir_lowpass::lowpass::Designed;
+use fir_lowpass::lowpass::Lowpass;
+use fir_lowpass::lowpass::firwin_lowpass;
+use fir_sinc::window::Window;
+use verdict::Refusal;
 
 // A cutoff at half the rate or above is refused, and the buffer keeps its marks.
 pub fn edge(mut c: Counts) -> Counts {

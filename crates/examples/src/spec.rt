@@ -1,5 +1,5 @@
 // Examples of low-pass filters by what they have to do.
-use design::DesignSpec;
+use fir_spec::DesignSpec;
 use expect::answers::near;
 use expect::answers::none;
 use expect::answers::of_filled;
@@ -10,7 +10,7 @@ use expect::taps::all_are;
 use expect::taps::sum;
 use expect::tell::Counts;
 use expect::tell::example;
-use refusal::Refusal;
+use verdict::Refusal;
 
 fn speech() -> DesignSpec {
     DesignSpec {

@@ -1,9 +1,9 @@
 // Whether an answer is the one that is expected: a number, a float or a refusal.
-use conversions::q15::Converted;
-use fir::lowpass::Designed;
-use fir::lowpass::Filled;
-use kaiser::order::Length;
-use refusal::Refusal;
+use fmt_q15::q15::Converted;
+use fir_lowpass::lowpass::Designed;
+use fir_lowpass::lowpass::Filled;
+use fir_length::order::Length;
+use verdict::Refusal;
 
 pub fn nan() -> f64 {
     0.0 / 0.0

@@ -1,5 +1,5 @@
 // What is asked of 16-bit numbers: one that a value was converted to, and those in a buffer.
-use conversions::q15::Coded;
+use fmt_q15::q15::Coded;
 
 // Whether a value is taken, as the number q.
 pub fn is_number(coded: Coded, q: i16) -> bool {

@@ -1,8 +1,8 @@
 // Examples of a channelizer's length and prototype.
-use channelizer::channelizer_lowpass;
-use channelizer::channelizer_prototype;
-use channelizer::channelizer_taps;
-use channelizer::channelizer_taps_per_branch;
+use fir_channelizer::channelizer_lowpass;
+use fir_channelizer::channelizer_prototype;
+use fir_channelizer::channelizer_taps;
+use fir_channelizer::channelizer_taps_per_branch;
 use expect::answers::near;
 use expect::answers::none;
 use expect::answers::of_designed;
@@ -14,7 +14,7 @@ use expect::taps::all_are;
 use expect::taps::sum;
 use expect::tell::Counts;
 use expect::tell::example;
-use refusal::Refusal;
+use verdict::Refusal;
 
 // 52.05 / 2.285 / (pi / 16) + 1 is 117.01, and / (pi / 40) + 1 is 291.03: rounded up that is 118 and 292, and neither is made odd. 118 / 16 is 7.4, and 292 / 16 is 18.3.
 pub fn lengths(mut c: Counts) -> Counts {

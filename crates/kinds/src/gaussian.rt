@@ -1,5 +1,5 @@
 // Examples of the Gaussian pulse.
-use buffered::gaussian::gaussian;
+use ticket_slices::gaussian::gaussian;
 use expect::answers::near;
 use expect::answers::none;
 use expect::answers::of_filled;
@@ -9,9 +9,9 @@ use expect::taps::others_below;
 use expect::taps::sum;
 use expect::tell::Counts;
 use expect::tell::example;
-use pulses::gaussian_design::Gaussian;
-use pulses::gaussian_design::GaussianDesigned;
-use refusal::Refusal;
+use fir_gaussian::gaussian_design::Gaussian;
+use fir_gaussian::gaussian_design::GaussianDesigned;
+use verdict::Refusal;
 
 // Why a pulse is refused.
 fn refusal(bt: f64, sps: u64, span: u64) -> Refusal {

@@ -1,5 +1,5 @@
 // Examples of half-band filters, by both routes: into a buffer, and tap by tap.
-use buffered::half_band::halfband_taps;
+use ticket_slices::half_band::halfband_taps;
 use expect::answers::nan;
 use expect::answers::near;
 use expect::answers::none;
@@ -9,10 +9,10 @@ use expect::taps::all_are;
 use expect::taps::sum;
 use expect::tell::Counts;
 use expect::tell::example;
-use halfband::HalfbandDesign;
-use halfband::HalfbandDesigned;
-use kaiser::beta::kaiser_beta;
-use refusal::Refusal;
+use fir_halfband::HalfbandDesign;
+use fir_halfband::HalfbandDesigned;
+use fir_length::beta::kaiser_beta;
+use verdict::Refusal;
 
 // Why a half-band of n taps is refused.
 fn refusal(beta: f64, n: u64) -> Refusal {

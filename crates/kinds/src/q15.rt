@@ -1,6 +1,6 @@
 // Examples of taps as Q15 numbers.
-use conversions::q15::q15_tap;
-use conversions::q15::to_q15;
+use fmt_q15::q15::q15_tap;
+use fmt_q15::q15::to_q15;
 use expect::answers::none;
 use expect::answers::of_converted;
 use expect::answers::same;
@@ -8,7 +8,7 @@ use expect::codes::equal;
 use expect::codes::is_number;
 use expect::tell::Counts;
 use expect::tell::example;
-use refusal::Refusal;
+use verdict::Refusal;
 
 // The largest size that is taken, (1 - 1/32768) 1.01: bits 3FF028D570A3D70A.
 const LIMIT: f64 = 1.0099691772460937;

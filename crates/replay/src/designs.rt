@@ -1,15 +1,15 @@
 // Kinds 16 to 20: the low-pass designs. A line has the arguments of an export and its report; those that write to a buffer are judged apart.
 use crate::written;
-use border::lowpass::pel_lowpass_new;
-use border::spec::pel_spec_lowpass;
-use border::spec::pel_spec_num_taps;
-use listed::line::WORDS;
-use listed::pattern::float_at;
-use listed::tally;
-use listed::tally::COUNTS;
-use listed::tally::Verdict;
-use listed::told;
-use refusal::Report;
+use c_lowpass::lowpass::pel_lowpass_new;
+use c_lowpass::spec::pel_spec_lowpass;
+use c_lowpass::spec::pel_spec_num_taps;
+use replay_lines::line::WORDS;
+use replay_lines::pattern::float_at;
+use replay_lines::tally;
+use replay_lines::tally::COUNTS;
+use replay_lines::tally::Verdict;
+use replay_lines::told;
+use verdict::Report;
 
 // The words before the report, where nothing is written.
 const ARGUMENTS: usize = 5;

@@ -1,20 +1,20 @@
 // Kinds 1 to 8: the elementary functions. A line has the bits of an argument and those of the answer.
-use listed::line::WORDS;
-use listed::pattern;
-use listed::tally;
-use listed::tally::COUNTS;
-use listed::tally::Verdict;
+use replay_lines::line::WORDS;
+use replay_lines::pattern;
+use replay_lines::tally;
+use replay_lines::tally::COUNTS;
+use replay_lines::tally::Verdict;
 
 fn answer(kind: usize, x: f64) -> f64 {
     match kind {
-        1 => whole::floor::floor(x),
-        2 => whole::ceil::ceil(x),
-        3 => whole::fabs::fabs(x),
-        4 => root::sqrt::sqrt(x),
-        5 => trig::sin::sin(x),
-        6 => trig::cos::cos(x),
-        7 => power::exp::exp(x),
-        _ => power::pow04::pow04(x),
+        1 => math_round::floor::floor(x),
+        2 => math_round::ceil::ceil(x),
+        3 => math_round::fabs::fabs(x),
+        4 => math_sqrt::sqrt::sqrt(x),
+        5 => math_trig::sin::sin(x),
+        6 => math_trig::cos::cos(x),
+        7 => math_exp::exp::exp(x),
+        _ => math_exp::pow04::pow04(x),
     }
 }
 

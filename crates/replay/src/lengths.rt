@@ -1,14 +1,14 @@
 // Kinds 11 to 15: Kaiser's shape, lengths and delays. A line has the arguments of an export and what it answers: a report, and of beta its bits alone.
-use border_numbers::lengths;
-use border_numbers::shape;
-use listed::line::WORDS;
-use listed::pattern;
-use listed::pattern::float_at;
-use listed::tally;
-use listed::tally::COUNTS;
-use listed::tally::Verdict;
-use listed::told;
-use refusal::Report;
+use c_math::lengths;
+use c_math::shape;
+use replay_lines::line::WORDS;
+use replay_lines::pattern;
+use replay_lines::pattern::float_at;
+use replay_lines::tally;
+use replay_lines::tally::COUNTS;
+use replay_lines::tally::Verdict;
+use replay_lines::told;
+use verdict::Report;
 
 // How many words a kind has before its report.
 fn arguments(kind: usize) -> usize {

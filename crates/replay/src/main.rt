@@ -5,13 +5,13 @@ mod elementary;
 mod lengths;
 mod written;
 
-use listed::line::TEXT;
-use listed::line::WORDS;
-use listed::source;
-use listed::tally;
-use listed::tally::COUNTS;
-use listed::tally::Tally;
-use listed::tally::Verdict;
+use replay_lines::line::TEXT;
+use replay_lines::line::WORDS;
+use replay_lines::source;
+use replay_lines::tally;
+use replay_lines::tally::COUNTS;
+use replay_lines::tally::Tally;
+use replay_lines::tally::Verdict;
 
 // What the port says to a line's words, by the group that has its kind.
 fn judge(kind: usize, words: &[u64; WORDS], count: usize) -> Verdict {
@@ -23,7 +23,7 @@ fn judge(kind: usize, words: &[u64; WORDS], count: usize) -> Verdict {
     }
 }
 
-// Judges every line. The turns are counted down for the same reason as in listed::source.
+// Judges every line. The turns are counted down for the same reason as in replay_lines::source.
 fn judge_all(counts: &mut [u64; COUNTS]) -> Tally {
     let mut chunk = io::buffer();
     let mut text = [0u8; TEXT];

@@ -1,13 +1,13 @@
 // Kinds 17 and 20: the designs that are written to a buffer, whose length in bytes is the last argument.
 ghost use Prim.Native.Nat.{_≤_};
-use border::lowpass::pel_lowpass;
-use border::spec::pel_spec_design;
-use listed::lent;
-use listed::line::WORDS;
-use listed::pattern::float_at;
-use listed::tally::Verdict;
-use listed::written;
-use refusal::Report;
+use c_lowpass::lowpass::pel_lowpass;
+use c_lowpass::spec::pel_spec_design;
+use replay_lines::lent;
+use replay_lines::line::WORDS;
+use replay_lines::pattern::float_at;
+use replay_lines::tally::Verdict;
+use replay_lines::written;
+use verdict::Report;
 
 // The index of the length in bytes.
 fn length_at(kind: usize) -> usize

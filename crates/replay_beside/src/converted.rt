@@ -1,15 +1,15 @@
 // Kinds 39 to 41: a buffer of f64s converted to Q14 and to f32.
-use border_formats::buffers::pel_to_f32;
-use border_formats::buffers::pel_to_f32_sos;
-use border_formats::buffers::pel_to_q14;
-use listed::converted;
-use listed::converted::FROM;
-use listed::converted::TO;
-use listed::lent;
-use listed::line::WORDS;
-use listed::offered;
-use listed::tally::Verdict;
-use refusal::Report;
+use c_formats::buffers::pel_to_f32;
+use c_formats::buffers::pel_to_f32_sos;
+use c_formats::buffers::pel_to_q14;
+use replay_lines::converted;
+use replay_lines::converted::FROM;
+use replay_lines::converted::TO;
+use replay_lines::lent;
+use replay_lines::line::WORDS;
+use replay_lines::offered;
+use replay_lines::tally::Verdict;
+use verdict::Report;
 
 // How many bytes a number has: Q14 or f32.
 fn width(kind: usize) -> usize {

@@ -1,14 +1,14 @@
 // Kind 48: the gain and the bandwidth of a window. A line has its length in bytes, the patterns of its whole samples, and the seven words of the answer in the order of its fields.
 ghost use Prim.Native.Nat.{_≤_};
-use border_gain::level::GainReport;
-use border_gain::level::pel_window_gain;
-use listed::lent;
-use listed::lent::ELEMENTS;
-use listed::line::WORDS;
-use listed::offered;
-use listed::pattern::agrees;
-use listed::tally;
-use listed::tally::Verdict;
+use c_gain::level::GainReport;
+use c_gain::level::pel_window_gain;
+use replay_lines::lent;
+use replay_lines::lent::ELEMENTS;
+use replay_lines::line::WORDS;
+use replay_lines::offered;
+use replay_lines::pattern::agrees;
+use replay_lines::tally;
+use replay_lines::tally::Verdict;
 
 // The words of an answer.
 const FIELDS: usize = 7;

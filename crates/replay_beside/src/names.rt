@@ -1,6 +1,6 @@
 // A line for each kind.
-use listed::tally;
-use listed::tally::COUNTS;
+use replay_lines::tally;
+use replay_lines::tally::COUNTS;
 
 pub(crate) fn designs(counts: &[u64; COUNTS]) {
     tally::named(b"rrc_len", 32, counts);

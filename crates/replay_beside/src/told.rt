@@ -1,12 +1,12 @@
 // Kinds 32, 33 and 38: a pulse's length and design, and one Q14 number. A line has the arguments of an export and its report.
-use border_kinds::cosine::pel_rrc_len;
-use border_kinds::cosine::pel_rrc_new;
-use border_numbers::single::pel_q14_from_f64;
-use listed::line::WORDS;
-use listed::pattern::float_at;
-use listed::tally::Verdict;
-use listed::told;
-use refusal::Report;
+use c_pulses::cosine::pel_rrc_len;
+use c_pulses::cosine::pel_rrc_new;
+use c_math::single::pel_q14_from_f64;
+use replay_lines::line::WORDS;
+use replay_lines::pattern::float_at;
+use replay_lines::tally::Verdict;
+use replay_lines::told;
+use verdict::Report;
 
 // How many words a kind has before its report.
 fn arguments(kind: usize) -> usize {

@@ -1,21 +1,21 @@
 // Kinds 34 to 37 and 42 to 47: pulses, sections and windows that are written to a buffer, whose length in bytes is the last argument.
 ghost use Prim.Native.Nat.{_≤_};
-use border_kinds::cosine::pel_rrc;
-use border_sections::cascade::pel_butterworth_sos;
-use border_sections::section::pel_biquad_coefs;
-use border_sections::section::pel_preemphasis_coefs;
-use border_windows::samples::pel_blackman_harris_f32;
-use border_windows::samples::pel_blackman_harris_q15;
-use border_windows::samples::pel_hann_f32;
-use border_windows::samples::pel_hann_q15;
-use border_windows::samples::pel_kaiser_f32;
-use border_windows::samples::pel_kaiser_q15;
-use listed::lent;
-use listed::line::WORDS;
-use listed::pattern::float_at;
-use listed::tally::Verdict;
-use listed::written;
-use refusal::Report;
+use c_pulses::cosine::pel_rrc;
+use c_sections::cascade::pel_butterworth_sos;
+use c_sections::section::pel_biquad_coefs;
+use c_sections::section::pel_preemphasis_coefs;
+use c_windows::samples::pel_blackman_harris_f32;
+use c_windows::samples::pel_blackman_harris_q15;
+use c_windows::samples::pel_hann_f32;
+use c_windows::samples::pel_hann_q15;
+use c_windows::samples::pel_kaiser_f32;
+use c_windows::samples::pel_kaiser_q15;
+use replay_lines::lent;
+use replay_lines::line::WORDS;
+use replay_lines::pattern::float_at;
+use replay_lines::tally::Verdict;
+use replay_lines::written;
+use verdict::Report;
 
 // The index of the length in bytes.
 fn length_at(kind: usize) -> usize

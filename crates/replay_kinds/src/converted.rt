@@ -1,12 +1,12 @@
 // Kind 31: a buffer of f64s converted to Q15.
-use border_formats::buffers::pel_to_q15;
-use listed::converted;
-use listed::converted::FROM;
-use listed::converted::TO;
-use listed::lent;
-use listed::line::WORDS;
-use listed::offered;
-use listed::tally::Verdict;
+use c_formats::buffers::pel_to_q15;
+use replay_lines::converted;
+use replay_lines::converted::FROM;
+use replay_lines::converted::TO;
+use replay_lines::lent;
+use replay_lines::line::WORDS;
+use replay_lines::offered;
+use replay_lines::tally::Verdict;
 
 pub(crate) fn judge(words: &[u64; WORDS], count: usize) -> Verdict {
     let to = lent::bytes(words[TO]);

@@ -1,17 +1,17 @@
 // Kinds 21 to 28: the half-band, the Gaussian pulse and the channelizer. A line has the arguments of an export and its report; those that write to a buffer are judged apart.
 use crate::written;
-use border::prototype::pel_channelizer_lowpass;
-use border::prototype::pel_channelizer_taps;
-use border::prototype::pel_channelizer_taps_per_branch;
-use border_kinds::halfbands::pel_halfband_new;
-use border_kinds::pulse::pel_gaussian_new;
-use listed::line::WORDS;
-use listed::pattern::float_at;
-use listed::tally;
-use listed::tally::COUNTS;
-use listed::tally::Verdict;
-use listed::told;
-use refusal::Report;
+use c_lowpass::prototype::pel_channelizer_lowpass;
+use c_lowpass::prototype::pel_channelizer_taps;
+use c_lowpass::prototype::pel_channelizer_taps_per_branch;
+use c_pulses::halfbands::pel_halfband_new;
+use c_pulses::pulse::pel_gaussian_new;
+use replay_lines::line::WORDS;
+use replay_lines::pattern::float_at;
+use replay_lines::tally;
+use replay_lines::tally::COUNTS;
+use replay_lines::tally::Verdict;
+use replay_lines::told;
+use verdict::Report;
 
 // How many words a kind has before its report, where nothing is written.
 fn arguments(kind: usize) -> usize {

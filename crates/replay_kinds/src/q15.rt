@@ -1,14 +1,14 @@
 // Kinds 29 to 31: numbers to Q15. A buffer that is converted is judged apart.
 use crate::converted;
-use border_numbers::single::pel_q15_from_f64;
-use border_numbers::single::pel_q15_tap;
-use listed::lent;
-use listed::line::WORDS;
-use listed::pattern::float_at;
-use listed::tally;
-use listed::tally::COUNTS;
-use listed::tally::Verdict;
-use listed::told;
+use c_math::single::pel_q15_from_f64;
+use c_math::single::pel_q15_tap;
+use replay_lines::lent;
+use replay_lines::line::WORDS;
+use replay_lines::pattern::float_at;
+use replay_lines::tally;
+use replay_lines::tally::COUNTS;
+use replay_lines::tally::Verdict;
+use replay_lines::told;
 
 // A Q15 number is a word of its two bytes, as they stand in a buffer.
 fn judge_number(words: &[u64; WORDS], count: usize) -> Verdict {
@@ -16,7 +16,7 @@ fn judge_number(words: &[u64; WORDS], count: usize) -> Verdict {
         return Verdict::Unreadable;
     }
     let mut out = lent::marked();
-    packed::put_i16(&mut out, 0, pel_q15_from_f64(float_at(words, 0)));
+    wire::put_i16(&mut out, 0, pel_q15_from_f64(float_at(words, 0)));
     tally::judged(lent::holds(&out, words, 1, 1, 2))
 }
 

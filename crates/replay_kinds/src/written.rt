@@ -1,14 +1,14 @@
 // Kinds 22, 24 and 28: the designs that are written to a buffer, whose length in bytes is the last argument.
 ghost use Prim.Native.Nat.{_≤_};
-use border::prototype::pel_channelizer_prototype;
-use border_kinds::halfbands::pel_halfband;
-use border_kinds::pulse::pel_gaussian;
-use listed::lent;
-use listed::line::WORDS;
-use listed::pattern::float_at;
-use listed::tally::Verdict;
-use listed::written;
-use refusal::Report;
+use c_lowpass::prototype::pel_channelizer_prototype;
+use c_pulses::halfbands::pel_halfband;
+use c_pulses::pulse::pel_gaussian;
+use replay_lines::lent;
+use replay_lines::line::WORDS;
+use replay_lines::pattern::float_at;
+use replay_lines::tally::Verdict;
+use replay_lines::written;
+use verdict::Report;
 
 // The index of the length in bytes.
 fn length_at(kind: usize) -> usize

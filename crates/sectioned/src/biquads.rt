@@ -10,9 +10,9 @@ use expect::answers::same;
 use expect::taps::all_are;
 use expect::tell::Counts;
 use expect::tell::example;
-use refusal::Refusal;
-use sections::biquad::Response;
-use sections::biquad::biquad_coefs;
+use verdict::Refusal;
+use iir_biquad::biquad::Response;
+use iir_biquad::biquad::biquad_coefs;
 
 // Whether a section is refused so, with zeros beside it.
 fn refuses(response: Response, centre: f64, q: f64, rate: f64, why: Refusal) -> bool {

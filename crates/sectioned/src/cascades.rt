@@ -1,7 +1,7 @@
 // Examples of Butterworth filters.
 use crate::response::at_zero;
 use crate::response::power_at_quarter;
-use butterworth::butterworth_sos;
+use iir_butterworth::butterworth_sos;
 use expect::answers::near;
 use expect::answers::none;
 use expect::answers::of_filled;
@@ -9,8 +9,8 @@ use expect::answers::same;
 use expect::taps::all_are;
 use expect::tell::Counts;
 use expect::tell::example;
-use refusal::Refusal;
-use sections::biquad::Response;
+use verdict::Refusal;
+use iir_biquad::biquad::Response;
 
 const RATE: f64 = 48000.0;
 

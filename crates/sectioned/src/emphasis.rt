@@ -9,8 +9,8 @@ use expect::answers::same;
 use expect::taps::all_are;
 use expect::tell::Counts;
 use expect::tell::example;
-use refusal::Refusal;
-use sections::preemphasis::preemphasis_coefs;
+use verdict::Refusal;
+use iir_biquad::preemphasis::preemphasis_coefs;
 
 // Whether it is refused so, with zeros beside it.
 fn refuses(tau: f64, rate: f64, why: Refusal) -> bool {

@@ -1,7 +1,7 @@
 // What a section lets through, from its numbers b0, b1, b2, a1, a2.
 use expect::answers::none;
-use refusal::Refusal;
-use sections::biquad::Verdict;
+use verdict::Refusal;
+use iir_biquad::biquad::Verdict;
 
 pub(crate) fn of_verdict(v: Verdict) -> Refusal {
     match v {

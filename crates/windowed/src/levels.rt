@@ -3,10 +3,10 @@ use expect::answers::infinity;
 use expect::answers::near;
 use expect::tell::Counts;
 use expect::tell::example;
-use gain::window_gain;
-use windows::fill::fill_f32;
-use windows::shape::Shape;
-use windows::shape::Symmetry;
+use win_gain::window_gain;
+use win_sampled::fill::fill_f32;
+use win_sampled::shape::Shape;
+use win_sampled::shape::Symmetry;
 
 // Over a whole turn a cosine sums to 0, and its square to half the number of samples. So the gain of four terms is the first, 0.35875, and the bandwidth 1 + (0.48829^2 + 0.14128^2 + 0.01168^2) / (2 0.35875^2), which is 2.00435294.
 pub fn windows(mut c: Counts) -> Counts {

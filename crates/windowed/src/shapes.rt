@@ -6,12 +6,12 @@ use expect::answers::same;
 use expect::singles::equal;
 use expect::tell::Counts;
 use expect::tell::example;
-use refusal::Refusal;
+use verdict::Refusal;
 use std::num::f32_to_f64_with_nan;
-use windows::fill::fill_f32;
-use windows::fill::fill_q15;
-use windows::shape::Shape;
-use windows::shape::Symmetry;
+use win_sampled::fill::fill_f32;
+use win_sampled::fill::fill_q15;
+use win_sampled::shape::Shape;
+use win_sampled::shape::Symmetry;
 
 // Whether a window is accepted.
 fn fills(shape: Shape, symmetry: Symmetry, out: &mut [f32]) -> bool {

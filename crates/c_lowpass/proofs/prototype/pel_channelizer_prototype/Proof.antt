@@ -1,0 +1,72 @@
+-- `c_lowpass::prototype::pel_channelizer_prototype` meets its contract: the length, and then what `fitted` answers. Assumes nothing.
+use mathlib.Core.Path.{ap}
+use Prim.Native.Nat.{ℕ, _/_}
+use lib.ListN.{length}
+use Rattle.fir_lowpass.specs.Outcome.{Outcome}
+use Rattle.fir_lowpass.specs.Lowpass.{outcomeOf}
+use Rattle.fir_lowpass.specs.declared.lowpass.Designed.{Designed}
+use Rattle.fir_channelizer.specs.Channelizer.{channelizerLowpassOf, fittedOf}
+use Rattle.c_lowpass.specs.Counts.{channelizer-count, room}
+use Rattle.c_lowpass.specs.Laws.{leaves-part, fits-lowpass, writes-whole}
+use borrow.Author.Needs.{needs}
+use Rattle.c_lowpass.proofs.prototype.pel_channelizer_prototype.Statement.{statement}
+use Rattle.c_lowpass.proofs.prototype.pel_channelizer_prototype.Tie as tie
+
+-- the buffer's length, and what comes of the ticket for it
+abbrev len : tie.Start → ℕ
+len c = length (c .args .out .now)
+
+abbrev design : tie.Start → Designed
+design c = let a = c .args in channelizerLowpassOf (a .channels) (a .branch) (a .passband) (a .stopband) (a .attenuation)
+
+abbrev outcome : tie.Start → Outcome
+outcome c = outcomeOf (fittedOf (design c) (len c / 8))
+
+sub-t14 : tie.Need-sub-t14
+sub-t14 c = search needs
+
+refused-requires : tie.Need-refused-requires
+refused-requires c κs = search needs
+
+returns : tie.Need-returns
+returns c =
+    let start = c .before .before .before in
+    leaves-part (len start) (outcome start) (c .before .if1 .taken) (c .refused .ensures)
+
+slice-aggregate-fitted : tie.Need-slice-aggregate-fitted
+slice-aggregate-fitted c = search needs
+
+fitted-requires : tie.Need-fitted-requires
+fitted-requires c κs = search needs
+
+slice-aggregate-write-lowpass : tie.Need-slice-aggregate-write-lowpass
+slice-aggregate-write-lowpass c = search needs
+
+write-lowpass-requires : tie.Need-write-lowpass-requires
+write-lowpass-requires c κs =
+    let p = c .before .before .before in
+    let start = p .before .before .before .before in
+    fits-lowpass (len start) (p .fitted .ensures) (room (len start) (p .before .before .if1 .left) (outcome start) (channelizer-count (design start) (len start / 8)))
+
+same-length : tie.Need-same-length
+same-length c = search needs
+
+returns-2 : tie.Need-returns-2
+returns-2 c =
+    let p = c .before .before .before .before .before .before in
+    let start = p .before .before .before .before in
+    writes-whole (len start) (outcome start) (p .before .before .if1 .left) (ap outcomeOf (p .fitted .ensures .is)) (c .before .before .write-lowpass .ensures)
+
+pub pel-channelizer-prototype-spec : {M : Type 1} → statement M
+pel-channelizer-prototype-spec =
+    tie.close
+    (tie.spec
+    sub-t14
+    refused-requires
+    returns
+    slice-aggregate-fitted
+    fitted-requires
+    slice-aggregate-write-lowpass
+    write-lowpass-requires
+    same-length
+    returns-2)

@@ -1,0 +1,20 @@
+-- The low-pass with its window by a code, for a number of taps and for a buffer of bytes. Definitions only.
+use Prim.Native.Nat.{ℕ, _/_}
+use lib.Ieee.{Float}
+use Rattle.verdict.specs.declared.Refusal.the-variants.{Plain}
+use Rattle.fir_lowpass.specs.declared.lowpass.Designed.{Designed}
+use Rattle.fir_lowpass.specs.declared.lowpass.Designed.the-variants.{Refused}
+use Rattle.fir_lowpass.specs.Outcome.{Outcome, Turned}
+use Rattle.fir_lowpass.specs.Lowpass.{lowpassOf, outcomeOf}
+use Rattle.c_lowpass.specs.declared.codes.Coded.{Coded}
+use Rattle.c_lowpass.specs.declared.codes.Coded.the-variants.{Known, Unknown}
+use Rattle.c_lowpass.specs.Taps.{wholeTaps}
+
+abbrev pub lowpassCoded : Float → Float → Coded → ℕ → Designed
+lowpassCoded cutoff rate (Known w) n = lowpassOf cutoff rate w n
+lowpassCoded cutoff rate Unknown n = Refused (Plain 7)
+
+-- eight bytes a tap
+abbrev pub lowpassBytes : Float → Float → Coded → ℕ → Outcome
+lowpassBytes cutoff rate (Known w) len = wholeTaps len (outcomeOf (lowpassOf cutoff rate w (len / 8)))
+lowpassBytes cutoff rate Unknown len = Turned (Plain 7)

@@ -1,0 +1,27 @@
+-- What comes of a low-pass, and what writing its taps needs: the series at its beta, the raw taps that were kept, and room. Definitions only.
+use Prim.Native.Nat.{ℕ, _*_}
+use mathlib.Core.Path.{_≡_}
+use mathlib.Core.List.{List}
+use lib.Ieee.{Float}
+use Rattle.fir_lowpass.specs.Outcome.{Outcome, Made, Turned}
+use Rattle.fir_lowpass.specs.Lowpass as Lowpass
+use Rattle.fir_lowpass.specs.Kept.{Keeps, Normed}
+use Rattle.fir_lowpass.specs.declared.lowpass.Lowpass.{Lowpass}
+use Rattle.fir_lowpass.specs.declared.lowpass.Designed.{Designed}
+use Rattle.fir_lowpass.specs.declared.lowpass.Designed.the-variants as Designed
+use Rattle.fir_lowpass.specs.declared.lowpass.Prepared.{Prepared}
+
+-- what comes of a ticket
+abbrev pub ofLowpass : Designed → Outcome
+ofLowpass d = Lowpass.outcomeOf d
+
+-- what comes of a design that is as long as a buffer of len bytes
+abbrev pub Room : ℕ → Outcome → Type 0
+Room len (Made n sum tap) = len ≡ 8 * n
+Room len (Turned why) = Unit {0}
+
+-- ---- what a writer needs of a design, where it is one: the series at its beta, a list that keeps its first raw taps, and a buffer of len bytes for its taps
+pub record FitsLowpass (p : Prepared) (rs : List Float) (len : ℕ) : Type 0 where
+  pub normed : Normed p
+  pub raws : (l : Lowpass) → p .designed ≡ Designed.Ready l → Keeps l (p .i0) rs
+  pub room : Room len (ofLowpass (p .designed))

@@ -1,0 +1,45 @@
+-- `c_pulses::halfbands::pel_halfband_new` meets its contract, a design and a refusal. Assumes nothing.
+use mathlib.Core.Path.{sym, ap, _∙_}
+use borrow.Author.Needs.{needs}
+use Rattle.verdict.specs.declared.Report.{Report}
+use Rattle.fir_halfband.specs.declared.HalfbandDesigned.{HalfbandDesigned}
+use Rattle.c_lowpass.specs.Reports.{outcomeReport}
+use Rattle.c_pulses.specs.Sources.{ofHalfband}
+use Rattle.c_pulses.proofs.halfbands.pel_halfband_new.Statement.{statement}
+use Rattle.c_pulses.proofs.halfbands.pel_halfband_new.Tie as tie
+
+abbrev told : HalfbandDesigned → Report
+told d = outcomeReport (ofHalfband d)
+
+new-requires : tie.Need-new-requires
+new-requires c κs = search needs
+
+enum-known-designed : tie.Need-enum-known-designed
+enum-known-designed c = search needs
+
+accepted-requires : tie.Need-accepted-requires
+accepted-requires c κs = search needs
+
+enum-known-designed-2 : tie.Need-enum-known-designed-2
+enum-known-designed-2 c = search needs
+
+refused-requires : tie.Need-refused-requires
+refused-requires c κs = search needs
+
+returns : tie.Need-returns
+returns c = c .accepted .ensures ∙ ap told (sym (c .before .before .designed .given .1) ∙ c .before .before .before .before .new .ensures)
+
+returns-2 : tie.Need-returns-2
+returns-2 c = c .refused .ensures ∙ ap told (sym (c .before .before .designed2 .given .1) ∙ c .before .before .before .before .new .ensures)
+
+pub pel-halfband-new-spec : {M : Type 1} → statement M
+pel-halfband-new-spec =
+    tie.close
+    (tie.spec
+    new-requires
+    enum-known-designed
+    accepted-requires
+    enum-known-designed-2
+    refused-requires
+    returns
+    returns-2)

@@ -1,0 +1,40 @@
+-- What comes of a half-band or a pulse, and what writing its taps needs: the series at its beta, the raw taps that were kept, and room. Definitions only.
+use Prim.Native.Nat.{ℕ}
+use mathlib.Core.Path.{_≡_}
+use mathlib.Core.List.{List}
+use lib.Ieee.{Float}
+use Rattle.fir_lowpass.specs.Outcome.{Outcome}
+use Rattle.fir_sinc.specs.Windows.{normOf}
+use Rattle.fir_lowpass.specs.Kept.{Keeps}
+use Rattle.fir_halfband.specs.Halfband as Halfband
+use Rattle.fir_halfband.specs.declared.HalfbandDesign.{HalfbandDesign}
+use Rattle.fir_halfband.specs.declared.HalfbandDesigned.{HalfbandDesigned}
+use Rattle.fir_halfband.specs.declared.HalfbandDesigned.the-variants as HalfbandDesigned
+use Rattle.fir_halfband.specs.declared.HalfbandPrepared.{HalfbandPrepared}
+use Rattle.fir_gaussian.specs.Gaussian as Gaussian
+use Rattle.fir_gaussian.specs.declared.gaussian_design.Gaussian.{Gaussian}
+use Rattle.fir_gaussian.specs.declared.gaussian_design.GaussianDesigned.{GaussianDesigned}
+use Rattle.fir_gaussian.specs.declared.gaussian_design.GaussianDesigned.the-variants as GaussianDesigned
+use Rattle.fir_rrc.specs.Rrc as Rrc
+use Rattle.fir_rrc.specs.declared.design.RrcDesigned.{RrcDesigned}
+use Rattle.c_lowpass.specs.Sources.{Room}
+
+-- what comes of a ticket, by kind
+abbrev pub ofHalfband : HalfbandDesigned → Outcome
+ofHalfband d = Halfband.outcomeOf d
+
+abbrev pub ofGaussian : GaussianDesigned → Outcome
+ofGaussian d = Gaussian.outcomeOf d
+
+abbrev pub ofRrc : RrcDesigned → Outcome
+ofRrc d = Rrc.outcomeOf d
+
+-- ---- what a writer needs of a design, where it is one: the series at its beta, a list that keeps its first raw taps, and a buffer of len bytes for its taps
+pub record FitsHalfband (p : HalfbandPrepared) (rs : List Float) (len : ℕ) : Type 0 where
+  pub normed : (d : HalfbandDesign) → p .designed ≡ HalfbandDesigned.Ready d → p .i0 ≡ normOf (d .lp .window)
+  pub raws : (d : HalfbandDesign) → p .designed ≡ HalfbandDesigned.Ready d → Keeps (d .lp) (p .i0) rs
+  pub room : Room len (ofHalfband (p .designed))
+
+pub record FitsGaussian (d : GaussianDesigned) (rs : List Float) (len : ℕ) : Type 0 where
+  pub raws : (g : Gaussian) → d ≡ GaussianDesigned.Ready g → Gaussian.Keeps g rs
+  pub room : Room len (ofGaussian d)

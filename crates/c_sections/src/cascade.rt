@@ -1,0 +1,58 @@
+// Butterworth filters, as an export into a buffer.
+use super::codes::Coded;
+use super::codes::response_of;
+use super::write::write_numbers;
+use fir_lowpass::lowpass::Filled;
+use verdict::Refusal;
+use verdict::Report;
+use iir_biquad::biquad::Response;
+use iir_biquad::biquad::Verdict;
+ghost use mathlib.Core.Path.{_≡_};
+ghost use Prim.Native.Nat.{_/_, _%_};
+ghost use lib.ListN.{length};
+ghost use Rattle.iir_butterworth.specs.Butterworth.{butterworthOf};
+ghost use Rattle.c_lowpass.specs.Taps.{Writes};
+ghost use Rattle.c_sections.specs.Codes.{responseOf};
+ghost use Rattle.c_sections.specs.Numbers.{butterworthBytes};
+
+// Judged first, since only a filter that is taken has few enough numbers for the array: the highest order has 20.
+fn write_cascade(response: Response, order: u64, cutoff: f64, rate: f64, out: &mut [u8]) -> Report
+    requires { ⌜ length (now out) % 8 ≡ 0 ⌝ }
+    ensures { λ r. ⌜ Writes (butterworthOf response order cutoff rate (length (now (out .entry)) / 8)) (now (out .entry)) r (now (out .exit)) ⌝ }
+{
+    let n = out.len() / 8;
+    let judged = iir_butterworth::judge(response, order, cutoff, rate, n as u64);
+    match judged {
+        Filled::Done => {
+            let mut numbers = [0.0f64; 20];
+            iir_butterworth::butterworth_sos(response, order, cutoff, rate, &mut numbers[..n]);
+            write_numbers(Verdict::Fine, &numbers[..n], &mut *out)
+        }
+        Filled::Refused(why) => verdict::refused(why),
+    }
+}
+
+// Fills the buffer with the sections of a Butterworth filter, order/2 of them with five numbers each as pel_biquad_coefs has them, eight bytes each, the lowest first; how many numbers as the count. Responses: 0 low-pass, 1 high-pass.
+// Refused, in this order: 7 a response above 3; 8 a length that isn't a multiple of 8, with the length to the last whole number and the length, in bytes; 7 a band-pass or a notch; 6 an order that isn't 2, 4, 6 or 8; 8 a buffer for another number of numbers than 5 order/2, with both; 2 with 0, rate/2, cutoff where the cutoff isn't between 0 and half of a finite rate. A refusal leaves the buffer as it came. Example: order 4 needs 80 bytes.
+#[no_mangle]
+pub extern "C" fn pel_butterworth_sos(
+    response: u64,
+    order: u64,
+    cutoff: f64,
+    rate: f64,
+    out: &mut [u8],
+) -> Report
+    ensures { λ r. ⌜ Writes (butterworthBytes (responseOf response) order cutoff rate (length (now (out .entry)))) (now (out .entry)) r (now (out .exit)) ⌝ }
+{
+    let coded = response_of(response);
+    match coded {
+        Coded::Known(known) => {
+            let len = out.len() as u64;
+            if len % 8 != 0 {
+                return verdict::refused(Refusal::Length(len - len % 8, len));
+            }
+            write_cascade(known, order, cutoff, rate, &mut *out)
+        }
+        Coded::Unknown => verdict::refused(Refusal::Plain(7)),
+    }
+}

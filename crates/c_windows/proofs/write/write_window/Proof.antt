@@ -1,0 +1,128 @@
+-- `c_windows::write::write_window` meets its contract: the code, the length, the shape, and then the window. Assumes nothing.
+use mathlib.Core.Path.{_≡_, sym, _∙_}
+use Prim.Native.Nat.{_<_}
+use native.Mathlib.Nat.{mod-le}
+use borrow.Author.Needs.{needs}
+use lib.ListN.{length}
+use lib.Ieee.{ofInt, ofBits}
+use Rattle.c_windows.specs.declared.codes.Coded.the-variants.{Known}
+use Rattle.c_windows.specs.Codes.{symmetryOf}
+use Rattle.c_windows.specs.FillLaws.{some-width}
+use Rattle.c_windows.specs.WriteLaws.{unknown-code, part-left, shape-refused, window-written}
+use Rattle.c_windows.proofs.write.write_window.Statement.{statement}
+use Rattle.c_windows.proofs.write.write_window.Tie as tie
+
+-- where the width is known: how it began, what the code stands for, and that a sample has bytes
+abbrev start : tie.After-width → tie.Start
+start c = c .before .before .before .before .before .before
+
+known : (c : tie.After-width) → symmetryOf (start c .args .code) ≡ Known (c .before .before .coded .given .0 .0)
+known c = sym (c .before .before .before .before .symmetry-of .ensures) ∙ c .before .before .coded .given .1
+
+some : (c : tie.After-width) → 0 < c .width .result
+some c = some-width (start c .args .sample) (c .width .ensures)
+
+symmetry-of-requires : tie.Need-symmetry-of-requires
+symmetry-of-requires c κs = search needs
+
+enum-known-coded : tie.Need-enum-known-coded
+enum-known-coded c = search needs
+
+width-requires : tie.Need-width-requires
+width-requires c κs = search needs
+
+rem-if1 : tie.Need-rem-if1
+rem-if1 c = some c
+
+rem-t14 : tie.Need-rem-t14
+rem-t14 c = some (c .before)
+
+sub-t15 : tie.Need-sub-t15
+sub-t15 c = mod-le (length (start (c .before) .args .out .now)) (c .before .width .result)
+
+refused-requires : tie.Need-refused-requires
+refused-requires c κs = search needs
+
+returns : tie.Need-returns
+returns c =
+    let w = c .before .before in
+    part-left (start w .args .shape) (known w) (w .width .ensures) (c .before .if1 .taken) (c .refused .ensures)
+
+takes-shape-requires : tie.Need-takes-shape-requires
+takes-shape-requires c κs = search needs
+
+refused-requires-2 : tie.Need-refused-requires-2
+refused-requires-2 c κs = search needs
+
+returns-2 : tie.Need-returns-2
+returns-2 c =
+    let t = c .before .before in
+    let w = t .before .before in
+    shape-refused (start w .args .shape) (known w) (w .width .ensures) (t .before .if1 .left) (t .takes-shape .ensures) (c .before .if2 .taken) (c .refused2 .ensures)
+
+div-n : tie.Need-div-n
+div-n c = some (c .before .before .before)
+
+norm-requires : tie.Need-norm-requires
+norm-requires c κs = search needs
+
+divisor-requires : tie.Need-divisor-requires
+divisor-requires c κs = search needs
+
+put-samples-requires : tie.Need-put-samples-requires
+put-samples-requires c κs =
+    let l = c .before .before .before .before .before in
+    rw (← l .before .width .ensures) (l .if1 .left)
+
+accepted-requires : tie.Need-accepted-requires
+accepted-requires c κs = search needs
+
+enum-told : tie.Need-enum-told
+enum-told c = search needs
+
+refused-requires-3 : tie.Need-refused-requires-3
+refused-requires-3 c κs = search needs
+
+same-length : tie.Need-same-length
+same-length c = search needs
+
+returns-3 : tie.Need-returns-3
+unfolding ofInt ofBits
+returns-3 c =
+    let put = c .before .before .before in
+    let d = put .before .before in
+    let t = d .before .before .before in
+    let w = t .before .before in
+    window-written (start w .args .shape) (known w) (w .width .ensures) (t .before .if1 .left) (t .takes-shape .ensures)
+    (d .before .before .if2 .left) (d .before .norm .ensures) (d .divisor .ensures) (c .accepted .ensures) (put .put-samples .ensures)
+
+returns-4 : tie.Need-returns-4
+returns-4 c =
+    let m = c .before .before .before in
+    unknown-code (m .before .before .args .shape) (sym (m .symmetry-of .ensures) ∙ c .before .enum-told .given .1) (c .refused3 .ensures)
+
+pub write-window-spec : {M : Type 1} → statement M
+write-window-spec =
+    tie.close
+    (tie.spec
+    symmetry-of-requires
+    enum-known-coded
+    width-requires
+    rem-if1
+    rem-t14
+    sub-t15
+    refused-requires
+    returns
+    takes-shape-requires
+    refused-requires-2
+    returns-2
+    div-n
+    norm-requires
+    divisor-requires
+    put-samples-requires
+    accepted-requires
+    enum-told
+    refused-requires-3
+    same-length
+    returns-3
+    returns-4)

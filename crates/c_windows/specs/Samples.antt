@@ -1,0 +1,56 @@
+-- A window for a buffer of bytes, each sample an f32 or a Q15 number. Definitions only.
+use Prim.Native.Nat.{ℕ, _-_, _/_, _%_}
+use mathlib.Core.Path.{_≡_}
+use mathlib.Core.Bool.{cond}
+use mathlib.Core.List.{List}
+use lib.Dec.{eqb}
+use lib.Ieee.{Float, binary32, toBits}
+use Rattle.laws.specs.Binary64.{whole}
+use Rattle.laws.specs.Chunks.{chunks}
+use Rattle.wire.specs.Bytes.{bytesOf, twosOf}
+use Rattle.verdict.specs.declared.Refusal.the-variants.{Plain, Length}
+use Rattle.verdict.specs.declared.Report.{Report}
+use Rattle.fir_lowpass.specs.Outcome.{Outcome, Made, Turned}
+use Rattle.fmt_q15.specs.Q15.{q15Of}
+use Rattle.fmt_f32.specs.Single.{singleOf}
+use Rattle.win_sampled.specs.Shapes.{shapeTaken, windowAt}
+use Rattle.win_sampled.specs.declared.shape.Shape.{Shape}
+use Rattle.c_lowpass.specs.Reports.{outcomeReport}
+use Rattle.c_windows.specs.declared.codes.Coded.{Coded}
+use Rattle.c_windows.specs.declared.codes.Coded.the-variants.{Known, Unknown}
+use Rattle.c_windows.specs.declared.sample.Sample.{Sample}
+use Rattle.c_windows.specs.declared.sample.Sample.the-variants.{Single, Q15}
+
+-- ---- one sample
+unfoldable pub widthOf : Sample → ℕ
+widthOf Single = 4
+widthOf Q15 = 2
+
+-- saturated as a Q15 number, with no limit and a NaN as 0
+unfoldable pub patternOf : Sample → Float → ℕ
+patternOf Single x = toBits binary32 (singleOf x)
+patternOf Q15 x = twosOf (q15Of x)
+
+abbrev pub sampleBytes : Sample → Float → List ℕ
+sampleBytes s x = bytesOf (widthOf s) (patternOf s x)
+
+-- ---- a buffer of len bytes, which holds whole samples
+abbrev pub windowBytes : Sample → Shape → Coded → ℕ → Outcome
+windowBytes s shape (Known symmetry) len =
+    let n = len / widthOf s in
+    cond (eqb (len % widthOf s) 0)
+    (cond (shapeTaken shape)
+    (Made n (whole 0) (windowAt shape symmetry n))
+    (Turned (Plain 4)))
+    (Turned (Length (len - len % widthOf s) len))
+windowBytes s shape Unknown len = Turned (Plain 7)
+
+-- every sample, the first one first, or as it came
+abbrev pub written : Sample → Outcome → List ℕ → List ℕ
+written s (Made n sum tap) d = chunks n (λ i. sampleBytes s (tap i))
+written s (Turned why) d = d
+
+-- what the answer and the buffer are afterwards
+pub record WritesSamples (s : Sample) (o : Outcome) (before : List ℕ) (r : Report) (after : List ℕ) : Type 0 where
+  pub answer : r ≡ outcomeReport o
+  pub buffer : after ≡ written s o before

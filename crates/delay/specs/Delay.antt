@@ -1,9 +1,0 @@
--- The delay of a linear-phase filter of n taps: (n − 1)/2 samples, rounded down. Definitions only.
-use Prim.Native.Nat.{ℕ, zero, suc, _/_}
-use Rattle.refusal.specs.declared.Refusal.the-variants.{Plain}
-use Rattle.delay.specs.declared.Delayed.{Delayed}
-use Rattle.delay.specs.declared.Delayed.the-variants.{Samples, Refused}
-
-unfoldable pub delayOf : ℕ → Delayed
-delayOf zero = Refused (Plain 6)
-delayOf (suc n) = Samples (n / 2)

@@ -1,0 +1,158 @@
+-- Each outcome of the judgement of a channelizer's prototype, from what the tests said, and what an accepted ticket tells. Assumes nothing.
+use mathlib.Core.Path.{_≡_, refl, sym, ap, _∙_, subst}
+use mathlib.Core.Bool.{Bool, true, false, cond, _||_, true≢false}
+use mathlib.Core.List.{List}
+use Prim.Native.Nat.{ℕ, _+_, _-_, _*_, _/_, _%_, _≤_, _<_}
+use native.Mathlib.Nat.{le-trans, mul-le-mul-left, mul-le-mul-right, div-add-mod', mod-lt}
+use native.Mathlib.Omega.{arith}
+use borrow.Author.Tests.{leb-true, eqb-true, eq-eqb}
+use lib.Arith.{digits-div}
+use lib.Dec.{leb, eqb, lit≤}
+use lib.Ieee.{Float}
+use Rattle.laws.specs.Binary64.{_⊕_, _⊖_, _⊗_, _⊘_, whole}
+use Rattle.laws.specs.Floor.{upward}
+use Rattle.laws.specs.Tests.{both}
+use Rattle.verdict.specs.declared.Refusal.{Refusal}
+use Rattle.verdict.specs.declared.Refusal.the-variants as Refusal
+use Rattle.fir_length.specs.Kaiser.{betaOf, estimate}
+use Rattle.fir_length.specs.declared.order.Length.{Length}
+use Rattle.fir_length.specs.declared.order.Length.the-variants as Length
+use Rattle.fir_lowpass.specs.Lowpass.{lowpassOf}
+use Rattle.fir_lowpass.specs.LowpassLaws.{never, prepares-as, prepares-refusal}
+use Rattle.fir_lowpass.specs.Kept.{Prepares}
+use Rattle.fir_sinc.specs.declared.window.Window.the-variants.{Kaiser}
+use Rattle.fir_lowpass.specs.declared.lowpass.Lowpass.{Lowpass}
+use Rattle.fir_lowpass.specs.declared.lowpass.Designed.{Designed}
+use Rattle.fir_lowpass.specs.declared.lowpass.Designed.the-variants as Designed
+use Rattle.fir_lowpass.specs.declared.lowpass.Prepared.{Prepared}
+use Rattle.fir_channelizer.specs.Channelizer.{channelsTaken, branchTaken, edgesOf, tapsIn, channelizerTapsOf, lowpassIn, channelizerLowpassOf, fittedOf}
+use Rattle.fir_channelizer.specs.declared.Checked.{Checked}
+use Rattle.fir_channelizer.specs.declared.Checked.the-variants as Checked
+
+-- ---- the numbers that are taken
+-- a number of channels: 4 to 256
+pub record Channels (m : ℕ) : Type 0 where
+  pub least : 4 ≤ m
+  pub most : m ≤ 256
+
+among : (m k : ℕ) (b : Bool) → 4 ≤ k → k ≤ 256 → (b ≡ true → Channels m) → b || eqb m k ≡ true → Channels m
+among m k true p q h e = h refl
+among m k false p q h e = let s = eqb-true m k e in record { least = omega arith; most = omega arith }
+
+pub channels-are : (m : ℕ) → channelsTaken m ≡ true → Channels m
+unfolding channelsTaken
+channels-are m =
+    let is : ℕ → Bool = eqb m in
+    among m 256 (is 4 || is 8 || is 16 || is 32 || is 64 || is 128) (lit≤ tt) (lit≤ tt)
+    (among m 128 (is 4 || is 8 || is 16 || is 32 || is 64) (lit≤ tt) (lit≤ tt)
+    (among m 64 (is 4 || is 8 || is 16 || is 32) (lit≤ tt) (lit≤ tt)
+    (among m 32 (is 4 || is 8 || is 16) (lit≤ tt) (lit≤ tt)
+    (among m 16 (is 4 || is 8) (lit≤ tt) (lit≤ tt)
+    (among m 8 (is 4) (lit≤ tt) (lit≤ tt)
+    (among m 4 false (lit≤ tt) (lit≤ tt) (λ e. absurd (true≢false (sym e)))))))))
+
+pub branch-most : (l : ℕ) → branchTaken l ≡ true → l ≤ 32
+unfolding branchTaken
+branch-most l h = leb-true l 32 (both (leb 4 l) (leb l 32) h .1)
+
+-- so a prototype has at most 256 · 32 taps
+pub product-most : (m l : ℕ) → channelsTaken m ≡ true → branchTaken l ≡ true → m * l ≤ 8192
+product-most m l a b = le-trans (mul-le-mul-right l (channels-are m a .most)) (mul-le-mul-left 256 (branch-most l b))
+
+-- ---- the answers, from what the tests so far said
+module _ (m : ℕ) (passband stopband a : Float) where
+  pub taps-by-edges : channelsTaken m ≡ true → channelizerTapsOf m passband stopband a ≡ tapsIn (edgesOf passband stopband a) (estimate a (whole 2 ⊗ (stopband ⊖ passband) ⊘ whole m))
+  unfolding channelizerTapsOf
+  taps-by-edges b = rw b
+
+  pub taps-no-channels : channelsTaken m ≡ false → channelizerTapsOf m passband stopband a ≡ Length.Refused (Refusal.Plain 6)
+  unfolding channelizerTapsOf
+  taps-no-channels b = rw b
+
+  -- where there are taps the channels were taken
+  pub taps-channels : (n : ℕ) → channelizerTapsOf m passband stopband a ≡ Length.Taps n → channelsTaken m ≡ true
+  unfolding channelizerTapsOf
+  taps-channels n e = go (channelsTaken m) e
+    where
+      go : (b : Bool) → cond b (tapsIn (edgesOf passband stopband a) (estimate a (whole 2 ⊗ (stopband ⊖ passband) ⊘ whole m))) (Length.Refused (Refusal.Plain 6)) ≡ Length.Taps n → b ≡ true
+      go true e = refl
+      go false e = let z : _≡_ {A = ℕ} 0 1 = cc in absurd (omega arith)
+
+-- the low-pass that a prototype is
+abbrev pub prototypeOf : ℕ → ℕ → Float → Float → Float → Designed
+prototypeOf m l passband stopband a = lowpassOf ((passband ⊕ stopband) ⊘ (whole 2 ⊗ whole m)) (whole 1) (Kaiser (betaOf a)) (m * l)
+
+module _ (m l : ℕ) (passband stopband a : Float) where
+  module _ (b : channelsTaken m ≡ true) where
+    pub by-edges : branchTaken l ≡ true → channelizerLowpassOf m l passband stopband a ≡ lowpassIn (edgesOf passband stopband a) (prototypeOf m l passband stopband a)
+    unfolding channelizerLowpassOf
+    by-edges c = rw (b, c)
+
+    pub no-branch : branchTaken l ≡ false → channelizerLowpassOf m l passband stopband a ≡ Designed.Refused (Refusal.Plain 6)
+    unfolding channelizerLowpassOf
+    no-branch c = rw (b, c)
+
+  pub no-channels : channelsTaken m ≡ false → channelizerLowpassOf m l passband stopband a ≡ Designed.Refused (Refusal.Plain 6)
+  unfolding channelizerLowpassOf
+  no-channels b = rw b
+
+-- ---- a branch's taps: n / m, rounded up
+module _ (n m : ℕ) (h : 4 ≤ m) where
+  pub upward-exact : n % m ≡ 0 → upward n m ≡ n / m
+  upward-exact e =
+      let d = div-add-mod' n m in
+      let s : n + (m - 1) ≡ n / m * m + (m - 1) = omega arith in
+      ap (λ (z : ℕ). z / m) s ∙ digits-div (n / m) (omega arith)
+
+  pub upward-more : (n % m ≡ 0 → ⊥) → upward n m ≡ n / m + 1
+  upward-more e =
+      let d = div-add-mod' n m in
+      let r : n % m < m = mod-lt n (omega arith) in
+      let s : n + (m - 1) ≡ (n / m + 1) * m + (n % m - 1) = omega arith in
+      ap (λ (z : ℕ). z / m) s ∙ digits-div (n / m + 1) (omega arith)
+
+  -- so one more than the quotient does not overflow
+  pub quotient-most : n / m * 4 ≤ n
+  quotient-most =
+      let d = div-add-mod' n m in
+      let k = mul-le-mul-left (n / m) h in
+      omega arith
+
+-- ---- a refusal, as an answer
+pub refuses : (d : Designed) (r : Prepared) (rs : List Float) (why : Refusal) → r .designed ≡ Designed.Refused why → d ≡ Designed.Refused why → Prepares d r rs
+refuses d r rs why e h = subst (λ (z : Designed). Prepares d (record { designed = z; i0 = r .i0 }) rs) (sym e) (prepares-refusal d why (r .i0) rs h)
+
+-- ---- for a buffer of len elements
+pub fits-as : {d : Designed} {r : Prepared} {rs : List Float} {l : Lowpass} {len : ℕ} → r .designed ≡ Designed.Ready l → l .n ≡ len → Prepares d r rs → Prepares (fittedOf d len) r rs
+fits-as {d} {r} {rs} {l} {len} e h f =
+    let g : d ≡ Designed.Ready l = sym (f .is) ∙ e in
+    prepares-as (g ∙ sym (ap (λ (z : Designed). fittedOf z len) g ∙ rw (eq-eqb (l .n) len h))) f
+
+-- ---- what an accepted ticket tells
+pub accepted : (m l : ℕ) (passband stopband a : Float) (d : Lowpass) → channelizerLowpassOf m l passband stopband a ≡ Designed.Ready d → lowpassOf ((passband ⊕ stopband) ⊘ (whole 2 ⊗ whole m)) (whole 1) (Kaiser (betaOf a)) (m * l) ≡ Designed.Ready d
+unfolding channelizerLowpassOf
+accepted m l passband stopband a d e = go (channelsTaken m) (branchTaken l) (edgesOf passband stopband a) (prototypeOf m l passband stopband a) e
+  where
+    go : (b c : Bool) (k : Checked) (p : Designed) → cond b (cond c (lowpassIn k p) (Designed.Refused (Refusal.Plain 6))) (Designed.Refused (Refusal.Plain 6)) ≡ Designed.Ready d → p ≡ Designed.Ready d
+    go true true Checked.Fine p e = e
+    go true true (Checked.Refused why) p e = absurd (never why d e)
+    go true false k p e = absurd (never (Refusal.Plain 6) d e)
+    go false c k p e = absurd (never (Refusal.Plain 6) d e)
+
+-- and one for a buffer: the design is accepted without the buffer too, and has as many taps as that has elements
+fitted-is : (g : Designed) (len : ℕ) (d : Lowpass) → fittedOf g len ≡ Designed.Ready d → (g ≡ Designed.Ready d) × (d .n ≡ len)
+fitted-is (Designed.Refused why) len d e = absurd (never why d e)
+fitted-is (Designed.Ready g) len d e = go (eqb (g .n) len) (eqb-true (g .n) len) e
+  where
+    go : (b : Bool) → (b ≡ true → g .n ≡ len) → cond b (Designed.Ready g) (Designed.Refused (Refusal.Length (g .n) len)) ≡ Designed.Ready d → (Designed.Ready g ≡ Designed.Ready d) × (d .n ≡ len)
+    go true k e = let s : g ≡ d = cc in (e, ap (λ (z : Lowpass). z .n) (sym s) ∙ k refl)
+    go false k e = absurd (never (Refusal.Length (g .n) len) d e)
+
+pub record Fitted (m l : ℕ) (passband stopband a : Float) (len : ℕ) (d : Lowpass) : Type 0 where
+  pub is : lowpassOf ((passband ⊕ stopband) ⊘ (whole 2 ⊗ whole m)) (whole 1) (Kaiser (betaOf a)) (m * l) ≡ Designed.Ready d
+  pub long : d .n ≡ len
+
+pub fitted-accepted : (m l : ℕ) (passband stopband a : Float) (len : ℕ) (d : Lowpass) → fittedOf (channelizerLowpassOf m l passband stopband a) len ≡ Designed.Ready d → Fitted m l passband stopband a len d
+fitted-accepted m l passband stopband a len d e =
+    let f = fitted-is (channelizerLowpassOf m l passband stopband a) len d e in
+    record { is = accepted m l passband stopband a d (f .0); long = f .1 }

@@ -1,0 +1,41 @@
+-- `fir_halfband::unscaled` meets its contract: the index that comes first is the lesser one. Assumes nothing.
+use mathlib.Core.Path.{_≡_, sym, ap, _∙_}
+use Prim.Native.Nat.{ℕ, _-_, min}
+use native.Mathlib.Omega.{arith}
+use borrow.Author.Needs.{needs}
+use lib.Ieee.{ofBits, ofInt}
+use Rattle.laws.specs.Cases.{either}
+use Rattle.fir_lowpass.specs.Lowpass.{tapWith}
+use Rattle.fir_halfband.specs.Halfband.{unscaledWith}
+use Rattle.fir_halfband.proofs.unscaled.Statement.{statement}
+use Rattle.fir_halfband.proofs.unscaled.Tie as tie
+
+is-zero-at-requires : tie.Need-is-zero-at-requires
+is-zero-at-requires c κs = search needs
+
+returns : tie.Need-returns
+unfolding unscaledWith ofInt ofBits
+returns c k = sym (rw (sym (c .before .is-zero-at .ensures) ∙ c .if1 .taken))
+
+sub-across : tie.Need-sub-across
+sub-across c = search needs
+
+sub-across-2 : tie.Need-sub-across-2
+sub-across-2 c = search needs
+
+kept-tap-requires : tie.Need-kept-tap-requires
+kept-tap-requires c κs = search needs
+
+is-lesser : (c : tie.Joined2) → let a = c .before .before .before .before .args in c .if2 .first ≡ min (a .k) (a .n - 1 - a .k)
+is-lesser c = either (c .if2 .came) (λ w. let h = w .0 .taken in w .1 ∙ omega arith) (λ w. let h = w .0 .left in w .1 ∙ omega arith)
+
+returns-2 : tie.Need-returns-2
+unfolding unscaledWith
+returns-2 c k =
+    let a = c .before .before .before .before .before .args in
+    c .kept-tap .ensures k ∙ ap (λ (j : ℕ). tapWith (a .lp) (a .i0) j) (is-lesser (c .before)) ∙ sym (rw (sym (c .before .before .before .is-zero-at .ensures) ∙ c .before .before .if1 .left))
+
+pub unscaled-spec : {M : Type 1} → statement M
+unscaled-spec =
+    tie.close
+    (tie.spec is-zero-at-requires returns sub-across sub-across-2 kept-tap-requires returns-2)

@@ -1,0 +1,106 @@
+-- The half-band of n taps, n being 3 over a multiple of 4. Definitions only.
+--   l is the low-pass of n taps with the cutoff at a quarter of the rate and Kaiser's window, m = (n − 1)/2 the middle;
+--   h[k] = 0 where |k − m| is even and not 0, else l[k];  then h[n − 1 − k] = h[k] for k < m;  tap k is h[k] / Σ h
+use Prim.Native.Nat.{ℕ, _+_, _-_, _/_, _%_, min}
+use mathlib.Core.Path.{_≡_}
+use mathlib.Core.Bool.{Bool, cond, not, _&&_}
+use mathlib.Core.List.{List}
+use lib.Dec.{eqb, ltb, leb}
+use lib.Ieee.{Float, binary64}
+use Rattle.laws.specs.Binary64.{_⊘_, whole, fraction}
+use Rattle.laws.specs.Sums.{sumTo}
+use Rattle.verdict.specs.declared.Refusal.the-variants.{Plain}
+use Rattle.fir_lowpass.specs.Outcome.{Outcome, Made, Turned}
+use Rattle.fir_sinc.specs.Windows.{normOf}
+use Rattle.fir_lowpass.specs.Lowpass as Lowpass
+use Rattle.fir_lowpass.specs.Kept.{Keeps}
+use Rattle.fir_sinc.specs.declared.window.Window.the-variants.{Kaiser}
+use Rattle.fir_lowpass.specs.declared.lowpass.Lowpass.{Lowpass}
+use Rattle.fir_lowpass.specs.declared.lowpass.Designed.{Designed}
+use Rattle.fir_lowpass.specs.declared.lowpass.Designed.the-variants as Designed
+use Rattle.fir_halfband.specs.declared.HalfbandDesign.{HalfbandDesign}
+use Rattle.fir_halfband.specs.declared.HalfbandDesigned.{HalfbandDesigned}
+use Rattle.fir_halfband.specs.declared.HalfbandDesigned.the-variants.{Ready, Refused}
+use Rattle.fir_halfband.specs.declared.HalfbandPrepared.{HalfbandPrepared}
+
+unfoldable pub lengthTaken : ℕ → Bool
+lengthTaken n = leb 3 n && eqb (n % 4) 3
+
+-- ---- where a half-band is zero
+-- "the middle" of n taps, and "the distance" of tap k from it
+abbrev pub middle : ℕ → ℕ
+middle n = (n - 1) / 2
+
+abbrev pub distance : ℕ → ℕ → ℕ
+distance n k = (k - middle n) + (middle n - k)
+
+unfoldable pub vanishes : ℕ → ℕ → Bool
+vanishes n k = not (eqb (distance n k) 0) && eqb (distance n k % 2) 0
+
+-- the low-pass that it is made from
+abbrev pub quarterOf : Float → ℕ → Designed
+quarterOf beta n = Lowpass.lowpassOf (fraction 1 4) (whole 1) (Kaiser beta) n
+
+-- ---- one tap at a time
+-- h[k] of n taps, i0 being the series at the low-pass's beta
+unfoldable pub unscaledWith : Lowpass → Float → ℕ → ℕ → Float
+unfolding vanishes
+unscaledWith l i0 n k = cond (vanishes n k) (whole 0) (Lowpass.tapWith l i0 (min k (n - 1 - k)))
+
+unfoldable pub unscaled : Lowpass → ℕ → ℕ → Float
+unfolding unscaledWith
+unscaled l n k = unscaledWith l (normOf (l .window)) n k
+
+-- the last divisor: the sum of the h[k] by rising index
+unfoldable pub divisorOf : Lowpass → ℕ → Float
+unfolding unscaled
+divisorOf l n = sumTo binary64 (unscaled l n) n
+
+-- a ticket is accepted where the answer is `Ready`
+abbrev pub halfbandIn : ℕ → Designed → HalfbandDesigned
+halfbandIn n (Designed.Ready l) = cond (Lowpass.usable (divisorOf l n)) (Ready (record { lp = l; n = n; sum = divisorOf l n })) (Refused (Plain 10))
+halfbandIn n (Designed.Refused why) = Refused why
+
+unfoldable pub halfbandOf : Float → ℕ → HalfbandDesigned
+unfolding lengthTaken
+halfbandOf beta n = cond (lengthTaken n) (halfbandIn n (quarterOf beta n)) (Refused (Plain 6))
+
+-- tap k of a design; 0 past the last one
+unfoldable pub tapWith : HalfbandDesign → Float → ℕ → Float
+unfolding unscaledWith
+tapWith d i0 k = cond (ltb k (d .n)) (unscaledWith (d .lp) i0 (d .n) k ⊘ d .sum) (whole 0)
+
+unfoldable pub tapOf : HalfbandDesign → ℕ → Float
+unfolding tapWith
+tapOf d k = tapWith d (normOf (d .lp .window)) k
+
+-- an answer that is the design d and, where it is one, the series at its beta, and a list that keeps the low-pass's first raw taps
+pub record Prepares (d : HalfbandDesigned) (r : HalfbandPrepared) (rs : List Float) : Type 0 where
+  pub is : r .designed ≡ d
+  pub kept : (h : HalfbandDesign) → r .designed ≡ Ready h → r .i0 ≡ normOf (h .lp .window)
+  pub raws : (h : HalfbandDesign) → r .designed ≡ Ready h → Keeps (h .lp) (r .i0) rs
+
+-- what comes of a ticket
+abbrev pub outcomeOf : HalfbandDesigned → Outcome
+outcomeOf (Ready d) = Made (d .n) (d .sum) (tapOf d)
+outcomeOf (Refused why) = Turned why
+
+-- ---- a buffer at once
+-- the low-pass's taps cleared, then mirrored, the left half to the right
+abbrev pub cleared : Lowpass → ℕ → Float
+cleared l k = cond (vanishes (l .n) k) (whole 0) (Lowpass.tapOf l k)
+
+abbrev pub mirrored : Lowpass → ℕ → Float
+mirrored l k = cleared l (cond (ltb (middle (l .n)) k) (l .n - 1 - k) k)
+
+abbrev pub mirroredSum : Lowpass → Float
+mirroredSum l = sumTo binary64 (mirrored l) (l .n)
+
+abbrev pub tapsIn : Designed → Outcome
+tapsIn (Designed.Ready l) = cond (Lowpass.usable (mirroredSum l)) (Made (l .n) (mirroredSum l) (λ k. mirrored l k ⊘ mirroredSum l)) (Turned (Plain 10))
+tapsIn (Designed.Refused why) = Turned why
+
+-- what comes of a ticket with a buffer of n elements
+unfoldable pub halfbandTapsOf : Float → ℕ → Outcome
+unfolding lengthTaken
+halfbandTapsOf beta n = cond (lengthTaken n) (tapsIn (quarterOf beta n)) (Turned (Plain 6))

@@ -1,0 +1,93 @@
+-- Each outcome of the judgement of a half-band, from what the tests said, and what an accepted ticket tells. Assumes nothing.
+use mathlib.Core.Path.{_≡_, refl, sym, ap, _∙_, subst}
+use mathlib.Core.Bool.{Bool, true, false, cond}
+use mathlib.Core.List.{List}
+use Prim.Native.Nat.{ℕ, _<_}
+use native.Mathlib.Omega.{arith}
+use borrow.Author.Tests.{lt-ltb}
+use lib.Ieee.{Float}
+use Rattle.laws.specs.Binary64.{_⊘_}
+use Rattle.verdict.specs.declared.Refusal.{Refusal}
+use Rattle.verdict.specs.declared.Refusal.the-variants.{Plain}
+use Rattle.fir_sinc.specs.Windows.{normOf}
+use Rattle.fir_lowpass.specs.Lowpass.{usable}
+use Rattle.fir_lowpass.specs.Kept.{Keeps}
+use Rattle.fir_lowpass.specs.declared.lowpass.Lowpass.{Lowpass}
+use Rattle.fir_lowpass.specs.declared.lowpass.Designed.{Designed}
+use Rattle.fir_lowpass.specs.declared.lowpass.Designed.the-variants as Designed
+use Rattle.fir_halfband.specs.Halfband.{lengthTaken, quarterOf, unscaled, divisorOf, halfbandIn, halfbandOf, tapOf, Prepares}
+use Rattle.fir_halfband.specs.declared.HalfbandDesign.{HalfbandDesign}
+use Rattle.fir_halfband.specs.declared.HalfbandDesigned.the-variants.{Ready, Refused}
+use Rattle.fir_halfband.specs.declared.HalfbandPrepared.{HalfbandPrepared}
+
+-- a tap of a design, below its length
+pub tap-is : (d : HalfbandDesign) (k : ℕ) → k < d .n → tapOf d k ≡ unscaled (d .lp) (d .n) k ⊘ d .sum
+unfolding tapOf unscaled
+tap-is d k h = rw (lt-ltb k (d .n) h)
+
+-- the design that comes of a low-pass
+abbrev pub halved : Lowpass → ℕ → HalfbandDesign
+halved l n = record { lp = l; n = n; sum = divisorOf l n }
+
+-- a refusal is no design
+never : (why : Refusal) (d : HalfbandDesign) → Refused why ≡ Ready d → ⊥
+never why d g = let z : _≡_ {A = ℕ} 0 1 = cc in omega arith
+
+same-record : (d e : HalfbandDesign) → Ready d ≡ Ready e → d ≡ e
+same-record d e q = cc
+
+module _ (beta : Float) (n : ℕ) where
+  -- what the tests so far said
+  module _ (a : lengthTaken n ≡ true) where
+    module _ (l : Lowpass) (b : quarterOf beta n ≡ Designed.Ready l) where
+      pub ready : usable (divisorOf l n) ≡ true → halfbandOf beta n ≡ Ready (halved l n)
+      unfolding halfbandOf
+      ready e = rw a (ap (halfbandIn n) b ∙ rw e)
+
+      pub no-divisor : usable (divisorOf l n) ≡ false → halfbandOf beta n ≡ Refused (Plain 10)
+      unfolding halfbandOf
+      no-divisor e = rw a (ap (halfbandIn n) b ∙ rw e)
+
+    pub no-lowpass : (why : Refusal) → quarterOf beta n ≡ Designed.Refused why → halfbandOf beta n ≡ Refused why
+    unfolding halfbandOf
+    no-lowpass why b = rw a (ap (halfbandIn n) b)
+
+  pub no-length : lengthTaken n ≡ false → halfbandOf beta n ≡ Refused (Plain 6)
+  unfolding halfbandOf
+  no-length a = rw a
+
+  -- a refusal, as an answer
+  pub refuses : (r : HalfbandPrepared) (rs : List Float) (why : Refusal) → r .designed ≡ Refused why → halfbandOf beta n ≡ Refused why → Prepares (halfbandOf beta n) r rs
+  refuses r rs why e h = record { is = e ∙ sym h; kept = λ d g. absurd (never why d (sym e ∙ g)); raws = λ d g. absurd (never why d (sym e ∙ g)) }
+
+  -- a design, as an answer
+  pub accepts : (l : Lowpass) (s i0 : Float) (rs : List Float) → s ≡ divisorOf l n → i0 ≡ normOf (l .window) → Keeps l i0 rs → halfbandOf beta n ≡ Ready (halved l n)
+      → Prepares (halfbandOf beta n) (record { designed = Ready (record { lp = l; n = n; sum = s }); i0 = i0 }) rs
+  accepts l s i0 rs e g k h =
+      let r : HalfbandDesign = record { lp = l; n = n; sum = s } in
+      record {
+        is = ap (λ (z : Float). Ready (record { lp = l; n = n; sum = z })) e ∙ sym h;
+        kept = λ d q. g ∙ ap (λ (z : HalfbandDesign). normOf (z .lp .window)) (same-record r d q);
+        raws = λ d q. subst (λ (z : HalfbandDesign). Keeps (z .lp) i0 rs) (same-record r d q) k;
+      }
+
+-- ---- what an accepted ticket tells
+pub record Accepted (beta : Float) (n : ℕ) (d : HalfbandDesign) : Type 0 where
+  pub lowpass : Lowpass
+  pub long : lengthTaken n ≡ true
+  pub quarter : quarterOf beta n ≡ Designed.Ready lowpass
+  pub divides : usable (divisorOf lowpass n) ≡ true
+  pub is : d ≡ halved lowpass n
+
+pub accepted : (beta : Float) (n : ℕ) (d : HalfbandDesign) → halfbandOf beta n ≡ Ready d → Accepted beta n d
+unfolding halfbandOf
+accepted beta n d e = go (lengthTaken n) (quarterOf beta n) refl refl e
+  where
+    tested : (l : Lowpass) (c : Bool) → lengthTaken n ≡ true → quarterOf beta n ≡ Designed.Ready l → usable (divisorOf l n) ≡ c → cond c (Ready (halved l n)) (Refused (Plain 10)) ≡ Ready d → Accepted beta n d
+    tested l true a b c e = record { lowpass = l; long = a; quarter = b; divides = c; is = sym (same-record (halved l n) d e) }
+    tested l false a b c e = absurd (never (Plain 10) d e)
+
+    go : (a : Bool) (q : Designed) → lengthTaken n ≡ a → quarterOf beta n ≡ q → cond a (halfbandIn n q) (Refused (Plain 6)) ≡ Ready d → Accepted beta n d
+    go true (Designed.Ready l) a b e = tested l (usable (divisorOf l n)) a b refl e
+    go true (Designed.Refused why) a b e = absurd (never why d e)
+    go false q a b e = absurd (never (Plain 6) d e)

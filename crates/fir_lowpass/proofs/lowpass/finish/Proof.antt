@@ -1,0 +1,41 @@
+-- `fir_lowpass::lowpass::finish` meets its contract: a design fills the buffer, a refusal leaves it. Assumes nothing.
+use denote.Ref.{now}
+use Rattle.fir_lowpass.specs.LowpassLaws.{fills, leaves}
+use borrow.Author.Needs.{needs}
+use Rattle.fir_lowpass.proofs.lowpass.finish.Statement.{statement}
+use Rattle.fir_lowpass.proofs.lowpass.finish.Tie as tie
+
+enum-known-designed : tie.Need-enum-known-designed
+enum-known-designed c = search needs
+
+fill-requires : tie.Need-fill-requires
+fill-requires c κs = search needs
+
+enum-known-designed-2 : tie.Need-enum-known-designed-2
+enum-known-designed-2 c = search needs
+
+same-length : tie.Need-same-length
+same-length c = search needs
+
+returns : tie.Need-returns
+returns c k =
+    let d = c .before .before .before .before .before .designed .given in
+    let s = c .before .before .before .before .before .before .before .before in
+    fills (s .args .p .designed) (now (s .args .taps)) (d .0 .0) (s .args .p .i0) _ (d .1) (k (d .0 .0) (d .1)) (c .before .before .fill .ensures)
+
+returns-2 : tie.Need-returns-2
+returns-2 c k =
+    let d = c .before .designed2 .given in
+    let s = c .before .before .before .before in
+    leaves (s .args .p .designed) (now (s .args .taps)) (d .0 .0) (d .1)
+
+pub finish-spec : {M : Type 1} → statement M
+finish-spec =
+    tie.close
+    (tie.spec
+    enum-known-designed
+    fill-requires
+    enum-known-designed-2
+    same-length
+    returns
+    returns-2)

@@ -1,0 +1,77 @@
+-- Q15: a value as a whole number of 1/32768 in 16 bits. Definitions only.
+--   q = floor(32768 t + 0.5), saturated to −32768 .. 32767; sizes up to (1 − 1/32768) · 1.01 are taken
+use Prim.Native.Nat.{ℕ, min}
+use mathlib.Core.Path.{_≡_}
+use mathlib.Core.List.{List}
+use mathlib.Core.Bool.{Bool, true, false, cond}
+use lib.Dec.{eqb, leb}
+use lib.ListN.{length, getD}
+use lib.IntN.{ℤ, pos, negsuc}
+use lib.Ieee.{Float, nan, inf, fin, neg, le}
+use Rattle.laws.specs.Binary64.{_⊕_, _⊖_, _⊗_, _⊘_, whole, fraction}
+use Rattle.laws.specs.Filled.{filled}
+use Rattle.laws.specs.Floor.{floorZ}
+use Rattle.laws.specs.Prefix.{firstBad}
+use Rattle.verdict.specs.declared.Refusal.{Refusal}
+use Rattle.verdict.specs.declared.Refusal.the-variants.{Length, Element}
+use Rattle.math_round.specs.Whole.{absOf}
+use Rattle.fmt_q15.specs.declared.q15.Coded.{Coded}
+use Rattle.fmt_q15.specs.declared.q15.Coded.the-variants as Coded
+use Rattle.fmt_q15.specs.declared.q15.Converted.{Converted}
+use Rattle.fmt_q15.specs.declared.q15.Converted.the-variants as Converted
+
+-- ---- one value
+-- 32768 t + 0.5, whose floor is q
+unfoldable pub moved : Float → Float
+moved t = t ⊗ whole 32768 ⊕ fraction 1 2
+
+-- held to 16 bits: `negsuc n` is −(n + 1)
+abbrev pub saturated : ℤ → ℤ
+saturated (pos n) = pos (min n 32767)
+saturated (negsuc n) = negsuc (min n 32767)
+
+-- whether it lies in −32768 to 32767; a tap "saturates" if its floor does not
+abbrev pub in16 : ℤ → Bool
+in16 (pos n) = leb n 32767
+in16 (negsuc n) = leb n 32767
+
+-- of the moved value: a NaN gives 0, an infinity an end of the range
+abbrev pub codeIn : Float → ℤ
+codeIn nan = pos 0
+codeIn (inf false) = pos 32767
+codeIn (inf true) = negsuc 32767
+codeIn (fin s m e) = saturated (floorZ (fin s m e))
+
+unfoldable pub q15Of : Float → ℤ
+unfolding moved
+q15Of t = codeIn (moved t)
+
+-- ---- one tap
+abbrev pub limit : Float
+limit = (whole 1 ⊖ whole 1 ⊘ whole 32768) ⊗ fraction 101 100
+
+-- a NaN is not taken
+unfoldable pub takes : Float → Bool
+takes t = le (absOf t) limit
+
+abbrev pub outside : ℕ → Float → Refusal
+outside i t = Element i (neg limit) limit t
+
+unfoldable pub q15TapOf : ℕ → Float → Coded
+unfolding takes
+q15TapOf i t = cond (takes t) (Coded.Number (q15Of t)) (Coded.Refused (outside i t))
+
+-- ---- a list of taps
+-- the source's element i, and its number
+abbrev pub itemOf : List Float → ℕ → ℤ
+itemOf s i = q15Of (getD s i nan)
+
+-- all are taken, or the first that isn't is named
+unfoldable pub toQ15Of : List Float → Converted
+unfolding takes
+toQ15Of s = let k = firstBad takes s in cond (eqb k (length s)) Converted.Done (Converted.Refused (outside k (getD s k nan)))
+
+-- what the answer and the destination are afterwards: the numbers up to the first element that isn't taken, the rest as it came
+pub record Converts (s : List Float) (before : List ℤ) (r : Converted) (after : List ℤ) : Type 0 where
+  pub answer : r ≡ cond (eqb (length s) (length before)) (toQ15Of s) (Converted.Refused (Length (length s) (length before)))
+  pub buffer : after ≡ cond (eqb (length s) (length before)) (filled (firstBad takes s) (itemOf s) before) before

@@ -1,0 +1,19 @@
+-- `math_bessel::bessel_i0` meets its contract. Assumes nothing.
+use lib.Ieee.{ofBits, ofInt, round}
+use Rattle.laws.specs.Binary64.{_⊘_, whole}
+use Rattle.math_bessel.specs.Laws.{start, series-is}
+use Rattle.math_bessel.proofs.bessel_i0.Statement.{statement}
+use Rattle.math_bessel.proofs.bessel_i0.Tie as tie
+
+rest-requires : tie.Need-rest-requires
+unfolding ofInt ofBits round
+rest-requires c κs = start (c .args .x ⊘ whole 2)
+
+returns : tie.Need-returns
+unfolding ofInt ofBits round
+returns c =
+    let r = c .rest in
+    series-is (c .before .args .x) (r .result .sum) (r .result .terms) (r .ensures .0) (r .ensures .1)
+
+pub bessel-i0-spec : {M : Type 1} → statement M
+bessel-i0-spec = tie.close (tie.spec rest-requires returns)

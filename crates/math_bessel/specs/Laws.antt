@@ -1,0 +1,115 @@
+-- How a loop finds where the series stops: at the last term allowed, at one that is small, or one term further. Assumes nothing.
+use Prim.Native.Nat.{ℕ, zero, suc, _+_, _-_, _≤_, _<_}
+use mathlib.Core.Bool.{Bool, true, false}
+use mathlib.Core.Path.{_≡_, refl, ap, sym, _∙_}
+use native.Mathlib.Numerals.{add-one}
+use native.Mathlib.Omega.{arith}
+use lib.Dec.{lit≤}
+use lib.Ieee.{Float, lt, ofInt, round, mul}
+use Rattle.laws.specs.Binary64.{_⊕_, _⊗_, _⊘_, whole}
+use Rattle.math_bessel.specs.Series.{term, partial, least, small, firstSmall, termsOf, seriesOf}
+
+-- one term more
+pub term-more : (h : Float) (k : ℕ) → term h k ⊗ ((h ⊘ whole (k + 1)) ⊗ (h ⊘ whole (k + 1))) ≡ term h (k + 1)
+unfolding term
+term-more h k = rw add-one
+
+pub partial-more : (h : Float) (k : ℕ) → partial h k ⊕ term h (k + 1) ≡ partial h (k + 1)
+unfolding partial
+partial-more h k = rw add-one
+
+-- ---- with k terms taken, none before the last small: where it stops, looked for from the last one on
+unfoldable pub ahead : Float → ℕ → ℕ
+ahead h k = firstSmall h (500 - k) (small h k) k
+
+-- the leading 1 never ends it
+pub ahead-start : (h : Float) → ahead h 0 ≡ termsOf h
+unfolding ahead termsOf firstSmall small term partial ofInt round mul lt
+ahead-start h = refl
+
+pub ahead-last : (h : Float) (k : ℕ) → k ≡ 500 → ahead h k ≡ k
+unfolding ahead firstSmall
+ahead-last h k e = ap (λ (d : ℕ). firstSmall h d (small h k) k) (go k e)
+  where
+    go : (k : ℕ) → k ≡ 500 → 500 - k ≡ 0
+    go k e = omega arith
+
+stop : (h : Float) (d k : ℕ) → firstSmall h d true k ≡ k
+unfolding firstSmall
+stop h zero k = refl
+stop h (suc d) k = refl
+
+pub ahead-stop : (h : Float) (k : ℕ) → small h k ≡ true → ahead h k ≡ k
+unfolding ahead
+ahead-stop h k e = ap (λ (b : Bool). firstSmall h (500 - k) b k) e ∙ stop h (500 - k) k
+
+pub ahead-more : (h : Float) (k : ℕ) → k < 500 → small h k ≡ false → ahead h k ≡ ahead h (k + 1)
+unfolding ahead firstSmall
+ahead-more h k l e =
+    ap (λ (b : Bool). firstSmall h (500 - k) b k) e
+    ∙ ap (λ (d : ℕ). firstSmall h d false k) (go k l)
+    ∙ ap (λ (j : ℕ). firstSmall h (500 - j) (small h j) j) (sym (add-one k))
+  where
+    go : (k : ℕ) → k < 500 → 500 - k ≡ suc (500 - suc k)
+    go k l = omega arith
+
+-- ---- the count is from 1 to 500
+from-to : (h : Float) (d : ℕ) (b : Bool) (k : ℕ) → (k ≤ firstSmall h d b k) × (firstSmall h d b k ≤ k + d)
+unfolding firstSmall
+from-to h zero b k = (omega arith, omega arith)
+from-to h (suc d) true k = (omega arith, omega arith)
+from-to h (suc d) false k = let r = from-to h d (small h (suc k)) (suc k) in (omega arith, omega arith)
+
+pub terms-range : (x : Float) → (1 ≤ seriesOf x .terms) × (seriesOf x .terms ≤ 500)
+unfolding seriesOf termsOf
+terms-range x = let h = x ⊘ whole 2 in from-to h 499 (small h 1) 1
+
+-- ---- the loop: k terms are taken, none before the last small
+pub record Going (h t s : Float) (k : ℕ) : Type 0 where
+  pub room : k ≤ 500
+  pub term-is : t ≡ term h k
+  pub sum-is : s ≡ partial h k
+  pub still : ahead h k ≡ termsOf h
+
+abbrev pub nextTerm : Float → Float → Float → Float
+nextTerm h t d = t ⊗ ((h ⊘ d) ⊗ (h ⊘ d))
+
+pub start : (h : Float) → Going h (whole 1) (whole 1) 0
+unfolding term partial
+start h = record { room = lit≤ tt; term-is = refl; sum-is = refl; still = ahead-start h }
+
+module _ {h t s : Float} {k : ℕ} (g : Going h t s k) where
+  ends : lt t (least ⊗ s) ≡ small h k
+  unfolding small
+  ends = ap (λ (z : Float). lt z (least ⊗ s)) (g .term-is) ∙ ap (λ (z : Float). lt (term h k) (least ⊗ z)) (g .sum-is)
+
+  done : ahead h k ≡ k → (s ≡ partial h (termsOf h)) × (k ≡ termsOf h)
+  done e = let n : k ≡ termsOf h = sym e ∙ g .still in (g .sum-is ∙ ap (λ (j : ℕ). partial h j) n, n)
+
+  pub at-last : k ≡ 500 → (s ≡ partial h (termsOf h)) × (k ≡ termsOf h)
+  at-last e = done (ahead-last h k e)
+
+  pub at-small : lt t (least ⊗ s) ≡ true → (s ≡ partial h (termsOf h)) × (k ≡ termsOf h)
+  at-small e = done (ahead-stop h k (sym ends ∙ e))
+
+  -- one term more, whose number is d
+  module _ {d : Float} (e : d ≡ whole (k + 1)) where
+    next-term : nextTerm h t d ≡ term h (k + 1)
+    next-term = rw (e, g .term-is) (term-more h k)
+
+    pub again : k < 500 → lt t (least ⊗ s) ≡ false → Going h (nextTerm h t d) (s ⊕ nextTerm h t d) (k + 1)
+    again l f =
+        record {
+          room = omega arith;
+          term-is = next-term;
+          sum-is = ap (λ (z : Float). z ⊕ nextTerm h t d) (g .sum-is) ∙ ap (λ (z : Float). partial h k ⊕ z) next-term ∙ partial-more h k;
+          still = sym (ahead-more h k l (sym ends ∙ f)) ∙ g .still;
+        }
+
+pub series-is : (x s : Float) (n : ℕ) → s ≡ partial (x ⊘ whole 2) (termsOf (x ⊘ whole 2)) → n ≡ termsOf (x ⊘ whole 2) → record { sum = s; terms = n } ≡ seriesOf x
+unfolding seriesOf
+series-is x s n e f = rw (e, f)
+
+pub sum-is : (x : Float) {s : Float} → s ≡ partial (x ⊘ whole 2) (termsOf (x ⊘ whole 2)) → s ≡ seriesOf x .sum
+unfolding seriesOf
+sum-is x e = e

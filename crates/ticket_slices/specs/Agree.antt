@@ -1,0 +1,93 @@
+-- The two ways to a half-band agree on every bit and every refusal: a tap at a time, and a buffer at once. Assumes nothing.
+use mathlib.Core.Path.{_≡_, refl, sym, ap, _∙_, subst}
+use mathlib.Core.Bool.{Bool, true, false, cond}
+use mathlib.Core.List.{List}
+use Prim.Native.Nat.{ℕ, _-_, _%_, _<_, min}
+use native.Mathlib.Omega.{arith}
+use lib.ListN.{length}
+use lib.Ieee.{Float, binary64}
+use Rattle.laws.specs.Binary64.{_⊘_, whole}
+use Rattle.laws.specs.Filled.{tabulate, tabulate-below}
+use Rattle.laws.specs.Sums.{sum-below}
+use Rattle.verdict.specs.declared.Refusal.{Refusal}
+use Rattle.verdict.specs.declared.Refusal.the-variants.{Plain}
+use Rattle.fir_lowpass.specs.Outcome.{Outcome, Made, Turned, Fills}
+use Rattle.fir_lowpass.specs.Lowpass as Lowpass
+use Rattle.fir_lowpass.specs.LowpassLaws.{ready-is}
+use Rattle.fir_sinc.specs.declared.window.Window.the-variants.{Kaiser}
+use Rattle.fir_lowpass.specs.declared.lowpass.Filled.the-variants as Filled
+use Rattle.fir_lowpass.specs.declared.lowpass.Lowpass.{Lowpass}
+use Rattle.fir_lowpass.specs.declared.lowpass.Designed.{Designed}
+use Rattle.fir_lowpass.specs.declared.lowpass.Designed.the-variants as Designed
+use Rattle.fir_halfband.specs.Halfband.{lengthTaken, quarterOf, unscaledWith, unscaled, divisorOf, halfbandIn, halfbandOf, tapOf, outcomeOf, cleared, mirrored, mirroredSum, tapsIn, halfbandTapsOf}
+use Rattle.fir_halfband.specs.HalfbandLaws.{tap-is, halved, accepted}
+use Rattle.fir_halfband.specs.Distance.{taken-odd, left-is-lesser, lesser-distance, vanishes-alike}
+use Rattle.fir_halfband.specs.declared.HalfbandDesign.{HalfbandDesign}
+use Rattle.fir_halfband.specs.declared.HalfbandDesigned.{HalfbandDesigned}
+use Rattle.fir_halfband.specs.declared.HalfbandDesigned.the-variants.{Ready, Refused}
+
+-- the same refusal, or as many taps, the same divisor, and the same taps
+abbrev pub Agrees : Outcome → Outcome → Type 0
+Agrees (Made n s t) (Made m u v) = (n ≡ m) × (s ≡ u) × ((k : ℕ) → k < n → t k ≡ v k)
+Agrees (Made n s t) (Turned why) = ⊥
+Agrees (Turned why) (Made m u v) = ⊥
+Agrees (Turned why) (Turned other) = why ≡ other
+
+-- ---- a low-pass of n taps, n being odd
+module _ (l : Lowpass) (o : l .n % 2 ≡ 1) where
+  unscaled-mirrored : (k : ℕ) → k < l .n → unscaled l (l .n) k ≡ mirrored l k
+  unfolding unscaled unscaledWith Lowpass.tapOf
+  unscaled-mirrored k h =
+      let j = min k (l .n - 1 - k) in
+      ap (λ (v : Bool). cond v (whole 0) (Lowpass.tapOf l j)) (sym (vanishes-alike (l .n) j k (lesser-distance (l .n) k o h)))
+      ∙ ap (cleared l) (sym (left-is-lesser (l .n) k o h))
+
+  divisor-mirrored : divisorOf l (l .n) ≡ mirroredSum l
+  unfolding divisorOf
+  divisor-mirrored = sum-below binary64 (unscaled l (l .n)) (mirrored l) (l .n) unscaled-mirrored
+
+  agree-in : Agrees (tapsIn (Designed.Ready l)) (outcomeOf (halfbandIn (l .n) (Designed.Ready l)))
+  agree-in =
+      subst (λ (z : Float). Agrees (cond (Lowpass.usable z) (Made (l .n) z (λ k. mirrored l k ⊘ z)) (Turned (Plain 10))) (outcomeOf (halfbandIn (l .n) (Designed.Ready l)))) divisor-mirrored
+      (tested (Lowpass.usable (divisorOf l (l .n))))
+    where
+      tested : (b : Bool) → Agrees (cond b (Made (l .n) (divisorOf l (l .n)) (λ k. mirrored l k ⊘ divisorOf l (l .n))) (Turned (Plain 10))) (outcomeOf (cond b (Ready (halved l (l .n))) (Refused (Plain 10))))
+      tested true = (refl, refl, λ k h. ap (λ (z : Float). z ⊘ divisorOf l (l .n)) (sym (unscaled-mirrored k h)) ∙ sym (tap-is (halved l (l .n)) k h))
+      tested false = refl
+
+-- ---- every ticket
+pub agree : (beta : Float) (n : ℕ) → Agrees (halfbandTapsOf beta n) (outcomeOf (halfbandOf beta n))
+unfolding halfbandTapsOf halfbandOf
+agree beta n = go (lengthTaken n) (quarterOf beta n) refl refl
+  where
+    go : (a : Bool) (q : Designed) → lengthTaken n ≡ a → quarterOf beta n ≡ q
+        → Agrees (cond a (tapsIn q) (Turned (Plain 6))) (outcomeOf (cond a (halfbandIn n q) (Refused (Plain 6))))
+    go true (Designed.Ready l) a b =
+        let e : l .n ≡ n = ap (λ (z : Lowpass). z .n) (ready-is _ _ (Kaiser beta) n l b .is) in
+        subst (λ (m : ℕ). Agrees (tapsIn (Designed.Ready l)) (outcomeOf (halfbandIn m (Designed.Ready l)))) e
+        (agree-in l (ap (λ (m : ℕ). m % 2) e ∙ taken-odd n a))
+    go true (Designed.Refused why) a b = refl
+    go false q a b = refl
+
+-- ---- so a buffer that is filled a tap at a time is filled as at once
+module _ (beta : Float) (before : List Float) where
+  agree-on : (g : HalfbandDesigned) → halfbandOf beta (length before) ≡ g → Agrees (halfbandTapsOf beta (length before)) (outcomeOf g)
+  agree-on g h = subst (λ (z : HalfbandDesigned). Agrees (halfbandTapsOf beta (length before)) (outcomeOf z)) h (agree beta (length before))
+
+  pub fills : (d : HalfbandDesign) (after : List Float) → halfbandOf beta (length before) ≡ Ready d → after ≡ tabulate (length before) (tapOf d)
+      → Fills (halfbandTapsOf beta (length before)) before Filled.Done after
+  fills d after h e = go (halfbandTapsOf beta (length before)) (agree-on (Ready d) h)
+    where
+      long : d .n ≡ length before
+      long = ap (λ (z : HalfbandDesign). z .n) (accepted beta (length before) d h .is)
+
+      go : (p : Outcome) → Agrees p (outcomeOf (Ready d)) → Fills p before Filled.Done after
+      go (Made n s t) a = record { answer = refl; buffer = e ∙ tabulate-below (length before) (tapOf d) t (λ k b. sym (a .2 k (omega (arith, long, a .0)))) }
+      go (Turned why) a = absurd a
+
+  pub leaves : (why : Refusal) → halfbandOf beta (length before) ≡ Refused why → Fills (halfbandTapsOf beta (length before)) before (Filled.Refused why) before
+  leaves why h = go (halfbandTapsOf beta (length before)) (agree-on (Refused why) h)
+    where
+      go : (p : Outcome) → Agrees p (Turned why) → Fills p before (Filled.Refused why) before
+      go (Made n s t) a = absurd a
+      go (Turned other) a = record { answer = ap Filled.Refused (sym a); buffer = refl }

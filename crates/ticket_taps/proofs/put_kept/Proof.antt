@@ -1,0 +1,101 @@
+-- `ticket_taps::put_kept` meets its contract. The loop's invariant: the first i taps stand in the buffer, and the rest is as it came. Assumes nothing.
+use mathlib.Core.Path.{_≡_}
+use Prim.Native.Nat.{_*_, _-_, _≤_}
+use native.Mathlib.Omega.{arith}
+use lib.ListN.{length}
+use Rattle.fir_lowpass.specs.Lowpass.{tapWith}
+use Rattle.fir_lowpass.specs.Kept.{Keeps}
+use Rattle.fir_lowpass.specs.KeptLaws.{kept-is}
+use Rattle.ticket_taps.specs.Standing.{Standing, at-first, one-more}
+use Rattle.ticket_taps.proofs.put_kept.Statement.{statement}
+use Rattle.ticket_taps.proofs.put_kept.Tie as tie
+
+abbrev Inv-loop : tie.InvT-loop
+Inv-loop lp i0 raws out₀ m i₀ out i = (i ≤ m) × Standing (Keeps lp i0 raws) (tapWith lp i0) out₀ i out
+
+abbrev μ-loop : tie.MeasureT-loop
+μ-loop lp i0 raws out₀ m i₀ out i = m - i
+
+returns : tie.Need-returns Inv-loop μ-loop
+returns c =
+    let a = c .before .before .before .before .args in
+    (omega arith, at-first (Keeps (a .lp) (a .i0) (a .raws .now)) (tapWith (a .lp) (a .i0)) (a .out .now) .stands)
+
+smaller-requires : tie.Need-smaller-requires Inv-loop μ-loop
+smaller-requires c κs = tt
+
+smaller-requires-2 : tie.Need-smaller-requires-2 Inv-loop μ-loop
+smaller-requires-2 c κs = tt
+
+-- there is room for them, they are kept, and the design has them
+room : (c : tie.After-smaller2 Inv-loop μ-loop) → 8 * c .smaller2 .result ≤ length (c .before .before .before .before .before .before .args .out .now)
+room c =
+    let p = c .smaller2 .ensures .0 in
+    let q = c .before .smaller .ensures .0 in
+    omega arith
+
+loop-holds : tie.Need-loop-holds Inv-loop μ-loop
+loop-holds c =
+    let a = c .before .before .before .before .before .before .args in
+    (omega arith, at-first (Keeps (a .lp) (a .i0) (a .raws .now)) (tapWith (a .lp) (a .i0)) (a .out .now))
+
+mul-put-f64 : tie.Need-mul-put-f64 Inv-loop μ-loop
+mul-put-f64 c = omega (arith, room (c .before .before .before))
+
+mul-put-f64-2 : tie.Need-mul-put-f64-2 Inv-loop μ-loop
+mul-put-f64-2 c = omega (arith, room (c .before .before .before))
+
+shared-slice-read-put-f64 : tie.Need-shared-slice-read-put-f64 Inv-loop μ-loop
+shared-slice-read-put-f64 c =
+    let m = c .before .before .before .before .smaller2 .ensures .0 in
+    let q = c .before .before .before .before .before .smaller .ensures .1 in
+    omega arith
+
+put-f64-requires : tie.Need-put-f64-requires Inv-loop μ-loop
+put-f64-requires c κs = tt
+
+add-i : tie.Need-add-i Inv-loop μ-loop
+add-i c = omega (arith, room (c .before .before .before .before .before .before .before .before))
+
+loop-less : tie.Need-loop-less Inv-loop μ-loop
+loop-less c = omega arith
+
+loop-again : tie.Need-loop-again Inv-loop μ-loop
+loop-again c =
+    let at = c .before .before .before .before .before .before .before in
+    let a = at .before .before .before .before .before .before .before .args in
+    let i = at .loop .i in
+    let n = at .before .smaller2 .ensures .1 in
+    let r = at .before .smaller2 .ensures .0 in
+    let q = at .before .before .smaller .ensures .1 in
+    let few = at .before .before .before .if1 .left in
+    (omega arith, one-more (at .loop .inv .1) (omega (arith, room (at .before))) (omega arith) (kept-is (a .lp) (a .i0) (a .raws .now) i (omega arith) (omega arith) (omega arith)) (c .before .before .put-f64 .ensures))
+
+same-length : tie.Need-same-length Inv-loop μ-loop
+same-length c = c .before .loop .inv .1 .size
+
+returns-2 : tie.Need-returns-2 Inv-loop μ-loop
+returns-2 c =
+    let at = c .before in
+    let e : at .loop .i ≡ at .before .smaller2 .result = omega arith in
+    (room (at .before), rw e at (at .loop .inv .1 .stands))
+
+pub put-kept-spec : {M : Type 1} → statement M
+put-kept-spec =
+    tie.close
+    (tie.spec
+    Inv-loop
+    μ-loop
+    returns
+    smaller-requires
+    smaller-requires-2
+    loop-holds
+    mul-put-f64
+    mul-put-f64-2
+    shared-slice-read-put-f64
+    put-f64-requires
+    add-i
+    loop-less
+    loop-again
+    same-length
+    returns-2)

@@ -1,0 +1,25 @@
+-- A design of any kind with the series at its beta, where it has one: its taps, and the raw taps that were kept of it. Definitions only.
+use Prim.Native.Nat.{ℕ}
+use mathlib.Core.List.{List}
+use lib.Ieee.{Float}
+use Rattle.fir_lowpass.specs.Lowpass as Lowpass
+use Rattle.fir_lowpass.specs.Kept.{Keeps}
+use Rattle.fir_halfband.specs.Halfband as Halfband
+use Rattle.fir_gaussian.specs.Gaussian as Gaussian
+use Rattle.fir_rrc.specs.Rrc as Rrc
+use Rattle.ticket_taps.specs.declared.Source.{Source}
+use Rattle.ticket_taps.specs.declared.Source.the-variants as Source
+
+-- tap i
+abbrev pub tapAt : Source → ℕ → Float
+tapAt (Source.Lowpass l i0) i = Lowpass.tapWith l i0 i
+tapAt (Source.Halfband d i0) i = Halfband.tapWith d i0 i
+tapAt (Source.Gaussian g) i = Gaussian.tapOf g i
+tapAt (Source.Rrc d) i = Rrc.tapOf d i
+
+-- a list keeps the first raw taps, where any are kept
+abbrev pub KeptFor : Source → List Float → Type 0
+KeptFor (Source.Lowpass l i0) rs = Keeps l i0 rs
+KeptFor (Source.Halfband d i0) rs = Keeps (d .lp) i0 rs
+KeptFor (Source.Gaussian g) rs = Gaussian.Keeps g rs
+KeptFor (Source.Rrc d) rs = Unit {0}

@@ -1,0 +1,108 @@
+// Why a ticket is turned down, and what the caller hears of it.
+ghost use mathlib.Core.Path.{_≡_};
+ghost use Rattle.verdict.specs.Report.{told, reportOf, acceptedOf};
+
+// A refusal is a shape with its number, so that a new number needs no new shape.
+pub enum Refusal {
+    // The number alone.
+    Plain(u32),
+    // A value out of range: number; smallest, largest and offered value.
+    Range(u32, f64, f64, f64),
+    // 8: a buffer's length, expected and offered.
+    Length(u64, u64),
+    // 9: more taps than the cap: how many, and the cap.
+    Cap(u64, u64),
+    // 11: an element that a conversion can't take: its index; smallest, largest and offered value.
+    Element(u64, f64, f64, f64),
+}
+
+// What an export answers, for acceptance and refusal alike; a field that does not apply is 0.
+#[repr(C)]
+pub struct Report {
+    // 0 where the ticket is accepted, else the refusal's number.
+    pub number: u32,
+    // What the refusal carries: 0 nothing, 1 a range, 2 a length, 3 a cap and its range, 4 an element and its range.
+    pub carries: u32,
+    pub smallest: f64,
+    pub largest: f64,
+    pub offered: f64,
+    // The length or the number of taps that was expected, and the length or the cap that was given.
+    pub expected: u64,
+    pub given: u64,
+    // The element's index.
+    pub index: u64,
+    // The results, where accepted.
+    pub count: u64,
+    pub value: f64,
+}
+
+// A report with no results.
+fn without_results(
+    number: u32,
+    carries: u32,
+    smallest: f64,
+    largest: f64,
+    offered: f64,
+    expected: u64,
+    given: u64,
+    index: u64,
+) -> Report
+    ensures { λ r. ⌜ r ≡ told number carries smallest largest offered expected given index ⌝ }
+{
+    Report {
+        number: number,
+        carries: carries,
+        smallest: smallest,
+        largest: largest,
+        offered: offered,
+        expected: expected,
+        given: given,
+        index: index,
+        count: 0,
+        value: 0.0,
+    }
+}
+
+// What is told of a refusal.
+pub fn refused(why: Refusal) -> Report
+    ensures { λ r. ⌜ r ≡ reportOf why ⌝ }
+{
+    match why {
+        Refusal::Plain(k) => without_results(k, 0, 0.0, 0.0, 0.0, 0, 0, 0),
+        Refusal::Range(k, lo, hi, got) => without_results(k, 1, lo, hi, got, 0, 0, 0),
+        Refusal::Length(expected, given) => without_results(
+            8,
+            2,
+            0.0,
+            0.0,
+            0.0,
+            expected,
+            given,
+            0,
+        ),
+        Refusal::Cap(n, cap) => {
+            let lo = std::num::nearest_u64_to_f64(n);
+            let got = std::num::nearest_u64_to_f64(cap);
+            without_results(9, 3, lo, 16777216.0, got, n, cap, 0)
+        }
+        Refusal::Element(i, lo, hi, got) => without_results(11, 4, lo, hi, got, 0, 0, i),
+    }
+}
+
+// What is told of an accepted ticket: its count and its value.
+pub fn accepted(count: u64, value: f64) -> Report
+    ensures { λ r. ⌜ r ≡ acceptedOf count value ⌝ }
+{
+    Report {
+        number: 0,
+        carries: 0,
+        smallest: 0.0,
+        largest: 0.0,
+        offered: 0.0,
+        expected: 0,
+        given: 0,
+        index: 0,
+        count: count,
+        value: value,
+    }
+}

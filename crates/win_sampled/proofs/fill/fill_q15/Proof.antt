@@ -1,0 +1,84 @@
+-- `win_sampled::fill::fill_q15` meets its contract; FillLaws has what it shares with the fill of f32s. Assumes nothing.
+use mathlib.Core.Path.{ap, _∙_}
+use Prim.Native.Nat.{_-_}
+use native.Mathlib.Omega.{arith}
+use borrow.Author.Needs.{needs}
+use mir.Syntax.{w16}
+use mir.ValLaws.{toZ-ofZ}
+use lib.ListN.{length}
+use Rattle.fmt_q15.specs.Q15.{q15Of}
+use Rattle.win_sampled.specs.FillLaws.{Filling, fill-start, same-size, fill-next, fill-done, fill-refused}
+use Rattle.win_sampled.proofs.fill.fill_q15.Statement.{statement}
+use Rattle.win_sampled.proofs.fill.fill_q15.Tie as tie
+
+abbrev Inv-loop : tie.InvT-loop
+Inv-loop shape out₀ n i0 d i₀ out i = Filling q15Of shape i0 d out₀ out i
+
+abbrev μ-loop : tie.MeasureT-loop
+μ-loop shape out₀ n i0 d i₀ out i = length out₀ - i
+
+takes-shape-requires : tie.Need-takes-shape-requires Inv-loop μ-loop
+takes-shape-requires c κs = search needs
+
+returns : tie.Need-returns Inv-loop μ-loop
+returns c = fill-refused (c .before .takes-shape .ensures) (c .if1 .taken)
+
+norm-requires : tie.Need-norm-requires Inv-loop μ-loop
+norm-requires c κs = search needs
+
+divisor-requires : tie.Need-divisor-requires Inv-loop μ-loop
+divisor-requires c κs = search needs
+
+loop-holds : tie.Need-loop-holds Inv-loop μ-loop
+loop-holds c = fill-start
+
+sample-at-requires : tie.Need-sample-at-requires Inv-loop μ-loop
+sample-at-requires c κs = search needs
+
+q15-from-f64-requires : tie.Need-q15-from-f64-requires Inv-loop μ-loop
+q15-from-f64-requires c κs = search needs
+
+mul-t16 : tie.Need-mul-t16 Inv-loop μ-loop
+mul-t16 c = search needs
+
+slice-set-from-out : tie.Need-slice-set-from-out Inv-loop μ-loop
+slice-set-from-out c = omega (arith, same-size (c .before .before .before .loop .inv))
+
+add-i : tie.Need-add-i Inv-loop μ-loop
+add-i c = omega arith
+
+loop-less : tie.Need-loop-less Inv-loop μ-loop
+loop-less c = omega arith
+
+loop-again : tie.Need-loop-again Inv-loop μ-loop
+loop-again c = fill-next (c .before .before .before .loop .inv) (omega arith) (toZ-ofZ w16 (c .q15-from-f64 .result) (record { sfits = c .q15-from-f64 .ok }) ∙ c .q15-from-f64 .ensures ∙ ap q15Of (c .before .sample-at .ensures))
+
+same-length : tie.Need-same-length Inv-loop μ-loop
+same-length c = same-size (c .before .loop .inv)
+
+returns-2 : tie.Need-returns-2 Inv-loop μ-loop
+returns-2 c =
+    let at = c .before in
+    let test = at .before .before .before in
+    fill-done (at .loop .inv) (test .before .takes-shape .ensures) (test .if1 .left) (at .before .before .norm .ensures) (at .before .divisor .ensures) (omega arith)
+
+pub fill-q15-spec : {M : Type 1} → statement M
+fill-q15-spec =
+    tie.close
+    (tie.spec
+    Inv-loop
+    μ-loop
+    takes-shape-requires
+    returns
+    norm-requires
+    divisor-requires
+    loop-holds
+    sample-at-requires
+    q15-from-f64-requires
+    mul-t16
+    slice-set-from-out
+    add-i
+    loop-less
+    loop-again
+    same-length
+    returns-2)

@@ -1,0 +1,19 @@
+-- `wire::single_of` meets its contract: the test tells a NaN's pattern. Assumes nothing.
+use borrow.Author.Needs.{needs}
+use lib.Ieee.{div, ofBits, binary32}
+use Rattle.wire.specs.Read.{nan-above, not-nan}
+use Rattle.wire.proofs.single_of.Statement.{statement}
+use Rattle.wire.proofs.single_of.Tie as tie
+
+float-from-bits-result : tie.Need-float-from-bits-result
+float-from-bits-result c = not-nan binary32 (c .before .args .n) (c .if1 .left)
+
+returns : tie.Need-returns
+unfolding div ofBits
+returns c = nan-above binary32 (c .before .args .n) (c .if1 .taken)
+
+returns-2 : tie.Need-returns-2
+returns-2 c = search needs
+
+pub single-of-spec : {M : Type 1} → statement M
+single-of-spec = tie.close (tie.spec float-from-bits-result returns returns-2)
