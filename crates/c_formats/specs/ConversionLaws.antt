@@ -12,23 +12,23 @@ use lib.Ieee.{nan}
 use Rattle.laws.specs.Chunks.{chunked}
 use Rattle.laws.specs.Filled.{length-tabulate, getD-tabulate}
 use Rattle.laws.specs.Prefix.{firstBad, bad-start, bad-more, bad-here, bad-end}
-use Rattle.wire.specs.Bytes.{floatAt, getOf, putOf}
-use Rattle.wire.specs.Laws.{put-none, put-more, put-length}
-use Rattle.wire.specs.Read.{get-fits}
+use Rattle.wire.specs.Bytes.{floatAt, putOf}
+use Rattle.wire.specs.WrittenPrefix.{WrittenPrefix}
+use Rattle.wire.specs.WrittenPrefix as Prefix
 use Rattle.verdict.specs.declared.Refusal.{Refusal}
 use Rattle.verdict.specs.declared.Refusal.the-variants.{Length}
 use Rattle.verdict.specs.declared.Report.{Report}
-use Rattle.fmt_q15.specs.declared.q15.Converted.{Converted}
-use Rattle.fmt_q15.specs.declared.q15.Converted.the-variants.{Done, Refused}
+use Rattle.verdict.specs.declared.Verdict.{Verdict}
+use Rattle.verdict.specs.declared.Verdict.the-variants.{Done, Refused}
 use Rattle.c_formats.specs.declared.element.Format.{Format}
 use Rattle.c_formats.specs.declared.element.Encoded.the-variants as Encoded
-use Rattle.c_formats.specs.Reports.{convertedReport}
+use Rattle.verdict.specs.Reports.{doneReport}
 use Rattle.c_formats.specs.Formats.{widthOf, takesOf, patternOf, encodedOf, bytesIn}
 use Rattle.c_formats.specs.FormatLaws.{pattern-tells, refusal-tells}
 use Rattle.c_formats.specs.Conversions.{floats, lengthsOf, takenOf, storedOf, thenOf, leftOf, ConvertsWhole, ConvertsBytes}
 
 -- a refusal isn't done
-pub only-done : (b : Bool) (c : Converted) (why : Refusal) → cond b c (Refused why) ≡ Done → (b ≡ true) × (c ≡ Done)
+pub only-done : (b : Bool) (c : Verdict) (why : Refusal) → cond b c (Refused why) ≡ Done → (b ≡ true) × (c ≡ Done)
 only-done true c why e = (refl, e)
 only-done false c why e = (cc, cc)
 
@@ -86,10 +86,10 @@ count s = length-tabulate (length s / 8) (λ k. floatAt s (8 * k))
 -- i elements were taken, and their bytes stand at the front
 pub record Reached (f : Format) (s before : List ℕ) (i : ℕ) (after : List ℕ) : Type 0 where
   pub taken : firstBad (takesOf f) (floats s) ≡ i + firstBad (takesOf f) (drop i (floats s))
-  pub put : after ≡ chunked (widthOf f) i (bytes f s) before
+  pub prefix : WrittenPrefix (widthOf f) (Unit {0}) (pattern f s) before i after
 
 pub at-first : (f : Format) (s before : List ℕ) → Reached f s before 0 before
-at-first f s before = record { taken = bad-start (takesOf f) (floats s); put = put-none (widthOf f) (pattern f s) before }
+at-first f s before = record { taken = bad-start (takesOf f) (floats s); prefix = Prefix.at-first (widthOf f) (Unit {0}) (pattern f s) before }
 
 module _ {f : Format} {s before : List ℕ} {i : ℕ} {after : List ℕ} (at : Reached f s before i after) where
   -- all were taken
@@ -98,41 +98,34 @@ module _ {f : Format} {s before : List ℕ} {i : ℕ} {after : List ℕ} (at : R
   at-end h =
       let all : firstBad (takesOf f) (floats s) ≡ i = omega (arith, count s, at .taken, bad-end (takesOf f) (floats s) i (omega (arith, count s))) in
       let full = eq-eqb i (length (floats s)) (omega (arith, count s)) in
-      record { answer = sym (rw (all, full)); buffer = at .put ∙ sym (rw all) }
+      record { answer = sym (rw (all, full)); buffer = at .prefix .stands tt ∙ sym (rw all) }
 
   module _ (room : length before ≡ widthOf f * (length s / 8)) where
-    pub same-bytes : i ≤ length s / 8 → length after ≡ length before
-    same-bytes h = ap length (at .put) ∙ put-length (widthOf f) (pattern f s) i before (omega (arith, room, mul-le-mul-left (widthOf f) h))
-
     -- element i, as it is read
     module _ (h : i < length s / 8) where
-      element : getOf s (8 * i) ≡ getD (floats s) i nan
-      element = get-fits s (8 * i) (omega arith) ∙ sym (getD-tabulate (length s / 8) (λ k. floatAt s (8 * k)) i nan h)
+      element : floatAt s (8 * i) ≡ getD (floats s) i nan
+      element = sym (getD-tabulate (length s / 8) (λ k. floatAt s (8 * k)) i nan h)
 
-      pub one-more : {p : ℕ} {next : List ℕ} → encodedOf f i (getOf s (8 * i)) ≡ Encoded.Pattern p → next ≡ putOf (widthOf f) after (widthOf f * i) p → Reached f s before (i + 1) next
+      pub one-more : {p : ℕ} {next : List ℕ} → encodedOf f i (floatAt s (8 * i)) ≡ Encoded.Pattern p → next ≡ putOf (widthOf f) after (widthOf f * i) p → Reached f s before (i + 1) next
       one-more {p} e stored =
           let t = pattern-tells f i (getD (floats s) i nan) p (ap (encodedOf f i) (sym element) ∙ e) in
           record {
             taken = omega (arith, at .taken, bad-more (takesOf f) (floats s) i nan (omega (arith, count s)) (t .0));
-            put =
-                stored
-                ∙ ap (λ (o : List ℕ). putOf (widthOf f) o (widthOf f * i) p) (at .put)
-                ∙ ap (putOf (widthOf f) (chunked (widthOf f) i (bytes f s) before) (widthOf f * i)) (sym (t .1))
-                ∙ put-more (widthOf f) (pattern f s) i before (omega (arith, room, mul-le-mul-left (widthOf f) h));
+            prefix = Prefix.one-more (at .prefix) (omega (arith, room, mul-le-mul-left (widthOf f) h)) (λ u. sym (t .1)) stored;
           }
 
-      pub one-refused : {why : Refusal} → encodedOf f i (getOf s (8 * i)) ≡ Encoded.Refused why → ConvertsWhole f s before (Refused why) after
+      pub one-refused : {why : Refusal} → encodedOf f i (floatAt s (8 * i)) ≡ Encoded.Refused why → ConvertsWhole f s before (Refused why) after
       unfolding takenOf storedOf
       one-refused {why} e =
           let t = refusal-tells f i (getD (floats s) i nan) why (ap (encodedOf f i) (sym element) ∙ e) in
           let here : firstBad (takesOf f) (floats s) ≡ i = omega (arith, at .taken, bad-here (takesOf f) (floats s) i nan (omega (arith, count s)) (t .0)) in
           let part = ne-eqb i (length (floats s)) (λ e. omega (arith, count s)) in
-          record { answer = sym (rw (here, part, t .1)); buffer = at .put ∙ sym (rw here) }
+          record { answer = sym (rw (here, part, t .1)); buffer = at .prefix .stands tt ∙ sym (rw here) }
 
 -- ---- all of it, by what came of the lengths
 module _ {f : Format} {g : ℕ} {s before : List ℕ} {r : Report} {after : List ℕ} where
-  pub converts : {c : Converted} → lengthsOf (widthOf f) g (length s) (length before) ≡ c → r ≡ convertedReport (length s / 8) (thenOf c (takenOf f (floats s))) → after ≡ leftOf c (storedOf f (floats s) before) before → ConvertsBytes f g s before r after
+  pub converts : {c : Verdict} → lengthsOf (widthOf f) g (length s) (length before) ≡ c → r ≡ doneReport (length s / 8) (thenOf c (takenOf f (floats s))) → after ≡ leftOf c (storedOf f (floats s) before) before → ConvertsBytes f g s before r after
   converts e told left = record {
-    answer = told ∙ ap (λ (c : Converted). convertedReport (length s / 8) (thenOf c (takenOf f (floats s)))) (sym e);
-    buffer = left ∙ ap (λ (c : Converted). leftOf c (storedOf f (floats s) before) before) (sym e);
+    answer = told ∙ ap (λ (c : Verdict). doneReport (length s / 8) (thenOf c (takenOf f (floats s)))) (sym e);
+    buffer = left ∙ ap (λ (c : Verdict). leftOf c (storedOf f (floats s) before) before) (sym e);
   }

@@ -11,10 +11,10 @@ use Rattle.laws.specs.Prefix.{firstBad}
 use Rattle.wire.specs.Bytes.{floatsIn}
 use Rattle.verdict.specs.declared.Refusal.the-variants.{Length}
 use Rattle.verdict.specs.declared.Report.{Report}
-use Rattle.fmt_q15.specs.declared.q15.Converted.{Converted}
-use Rattle.fmt_q15.specs.declared.q15.Converted.the-variants.{Done, Refused}
+use Rattle.verdict.specs.declared.Verdict.{Verdict}
+use Rattle.verdict.specs.declared.Verdict.the-variants.{Done, Refused}
 use Rattle.c_formats.specs.declared.element.Format.{Format}
-use Rattle.c_formats.specs.Reports.{convertedReport}
+use Rattle.verdict.specs.Reports.{doneReport}
 use Rattle.c_formats.specs.Formats.{widthOf, takesOf, outsideOf, bytesIn}
 
 -- the f64s of a source of bytes
@@ -23,7 +23,7 @@ floats s = floatsIn (length s / 8) s
 
 -- ---- the lengths, from m bytes to len bytes in elements of w bytes, of which g belong together (1 where none do)
 -- a length that isn't whole elements is refused first, the source's before the destination's, in bytes; then a source that isn't whole groups, then two lengths that differ, both in elements
-unfoldable pub lengthsOf : ℕ → ℕ → ℕ → ℕ → Converted
+unfoldable pub lengthsOf : ℕ → ℕ → ℕ → ℕ → Verdict
 lengthsOf w g m len =
     let n = m / 8 in
     cond (eqb (m % 8) 0)
@@ -38,7 +38,7 @@ lengthsOf w g m len =
 
 -- ---- the elements
 -- all are taken, or the first that isn't is named
-unfoldable pub takenOf : Format → List Float → Converted
+unfoldable pub takenOf : Format → List Float → Verdict
 takenOf f s = let k = firstBad (takesOf f) s in cond (eqb k (length s)) Done (Refused (outsideOf f k (getD s k nan)))
 
 -- the elements up to the first that isn't taken, the rest as it came
@@ -46,21 +46,21 @@ unfoldable pub storedOf : Format → List Float → List ℕ → List ℕ
 storedOf f s d = chunked (widthOf f) (firstBad (takesOf f) s) (λ i. bytesIn f (getD s i nan)) d
 
 -- where both lengths are right
-pub record ConvertsWhole (f : Format) (s before : List ℕ) (r : Converted) (after : List ℕ) : Type 0 where
+pub record ConvertsWhole (f : Format) (s before : List ℕ) (r : Verdict) (after : List ℕ) : Type 0 where
   pub answer : r ≡ takenOf f (floats s)
   pub buffer : after ≡ storedOf f (floats s) before
 
 -- ---- all of it
 -- what comes after the lengths
-abbrev pub thenOf : Converted → Converted → Converted
+abbrev pub thenOf : Verdict → Verdict → Verdict
 thenOf Done c = c
 thenOf (Refused why) c = Refused why
 
-abbrev pub leftOf : Converted → List ℕ → List ℕ → List ℕ
+abbrev pub leftOf : Verdict → List ℕ → List ℕ → List ℕ
 leftOf Done after before = after
 leftOf (Refused why) after before = before
 
 -- what the answer and the destination are afterwards
 pub record ConvertsBytes (f : Format) (g : ℕ) (s before : List ℕ) (r : Report) (after : List ℕ) : Type 0 where
-  pub answer : r ≡ convertedReport (length s / 8) (thenOf (lengthsOf (widthOf f) g (length s) (length before)) (takenOf f (floats s)))
+  pub answer : r ≡ doneReport (length s / 8) (thenOf (lengthsOf (widthOf f) g (length s) (length before)) (takenOf f (floats s)))
   pub buffer : after ≡ leftOf (lengthsOf (widthOf f) g (length s) (length before)) (storedOf f (floats s) before) before

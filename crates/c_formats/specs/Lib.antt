@@ -1,4 +1,3 @@
-pub mod Reports
 pub mod Formats
 pub mod FormatLaws
 pub mod Conversions

@@ -3,44 +3,44 @@ use super::element::Encoded;
 use super::element::Format;
 use super::element::encode;
 use super::element::width;
-use fmt_q15::q15::Converted;
 use verdict::Refusal;
 use verdict::Report;
+use verdict::Verdict;
 ghost use mathlib.Core.Path.{_≡_};
 ghost use Prim.Native.Nat.{_+_, _*_, _/_, _%_, _<_, _≤_};
 ghost use lib.ListN.{length};
 ghost use lib.Ieee.{binary64, ofBits};
-ghost use Rattle.wire.specs.Bytes.{getOf, putOf};
-ghost use Rattle.fmt_q15.specs.declared.q15.Converted.the-variants.{Done};
+ghost use Rattle.wire.specs.Bytes.{floatAt, putOf};
+ghost use Rattle.verdict.specs.declared.Verdict.the-variants.{Done};
 ghost use Rattle.c_formats.specs.declared.element.Format.the-variants.{Single};
 ghost use Rattle.c_formats.specs.Formats.{widthOf};
 ghost use Rattle.c_formats.specs.Conversions.{lengthsOf, ConvertsWhole, ConvertsBytes};
 
 // Whether two lengths in bytes fit a conversion to elements of so many bytes, of which a group belongs together.
-fn judge_lengths(from: u64, to: u64, wide: u64, group: u64) -> Converted
+fn judge_lengths(from: u64, to: u64, wide: u64, group: u64) -> Verdict
     requires { ⌜ 0 < wide ⌝ ∗ ⌜ 0 < group ⌝ }
     ensures { λ r. ⌜ r ≡ lengthsOf wide group from to ⌝ }
 {
     if from % 8 != 0 {
-        return Converted::Refused(Refusal::Length(from - from % 8, from));
+        return Verdict::Refused(Refusal::Length(from - from % 8, from));
     }
     if to % wide != 0 {
-        return Converted::Refused(Refusal::Length(to - to % wide, to));
+        return Verdict::Refused(Refusal::Length(to - to % wide, to));
     }
     let n = from / 8;
     if n % group != 0 {
-        return Converted::Refused(Refusal::Length(n - n % group, n));
+        return Verdict::Refused(Refusal::Length(n - n % group, n));
     }
     if n != to / wide {
-        return Converted::Refused(Refusal::Length(n, to / wide));
+        return Verdict::Refused(Refusal::Length(n, to / wide));
     }
-    Converted::Done
+    Verdict::Done
 }
 
 // The pattern of the f64 that is element i. Its place is proved, so nothing is tested, and the eight loads become one.
 fn bits_at(src: &[u8], i: usize) -> u64
     requires { ⌜ i < length (now src) / 8 ⌝ }
-    ensures { λ r. ⌜ ofBits binary64 r ≡ getOf (now (src .entry)) (8 * i) ⌝ }
+    ensures { λ r. ⌜ ofBits binary64 r ≡ floatAt (now (src .entry)) (8 * i) ⌝ }
 {
     let at = 8 * i;
     wire::join(
@@ -94,7 +94,7 @@ fn store(format: Format, out: &mut [u8], at: usize, pattern: u64)
 }
 
 // The elements of a source of whole f64s into a destination for as many, up to the first that isn't taken.
-fn put_elements(format: Format, src: &[u8], out: &mut [u8]) -> Converted
+fn put_elements(format: Format, src: &[u8], out: &mut [u8]) -> Verdict
     requires { ⌜ length (now src) % 8 ≡ 0 ⌝ ∗ ⌜ length (now out) ≡ widthOf format * (length (now src) / 8) ⌝ }
     ensures { λ r. ⌜ ConvertsWhole format (now (src .entry)) (now (out .entry)) r (now (out .exit)) ⌝ }
 {
@@ -107,11 +107,11 @@ fn put_elements(format: Format, src: &[u8], out: &mut [u8]) -> Converted
                 store(format, &mut *out, wide * i, pattern);
             }
             Encoded::Refused(why) => {
-                return Converted::Refused(why);
+                return Verdict::Refused(why);
             }
         }
     }
-    Converted::Done
+    Verdict::Done
 }
 
 // The f32s of a source of whole f64s. Every value has one, so nothing is asked of an element, and the loop is a load, a few operations and a store.
@@ -127,7 +127,7 @@ fn put_singles(src: &[u8], out: &mut [u8])
 }
 
 // The elements in any format, each by its own loop.
-fn put_all(format: Format, src: &[u8], out: &mut [u8]) -> Converted
+fn put_all(format: Format, src: &[u8], out: &mut [u8]) -> Verdict
     requires { ⌜ length (now src) % 8 ≡ 0 ⌝ ∗ ⌜ length (now out) ≡ widthOf format * (length (now src) / 8) ⌝ }
     ensures { λ r. ⌜ ConvertsWhole format (now (src .entry)) (now (out .entry)) r (now (out .exit)) ⌝ }
 {
@@ -136,7 +136,7 @@ fn put_all(format: Format, src: &[u8], out: &mut [u8]) -> Converted
         Format::Q14 => put_elements(Format::Q14, src, &mut *out),
         Format::Single => {
             put_singles(src, &mut *out);
-            Converted::Done
+            Verdict::Done
         }
     }
 }
@@ -149,13 +149,13 @@ pub(crate) fn convert(format: Format, group: u64, src: &[u8], out: &mut [u8]) ->
     let from = src.len() as u64;
     let lengths = judge_lengths(from, out.len() as u64, width(format), group);
     match lengths {
-        Converted::Done => {
+        Verdict::Done => {
             let converted = put_all(format, src, &mut *out);
             match converted {
-                Converted::Done => verdict::accepted(from / 8, 0.0),
-                Converted::Refused(why) => verdict::refused(why),
+                Verdict::Done => verdict::accepted(from / 8, 0.0),
+                Verdict::Refused(why) => verdict::refused(why),
             }
         }
-        Converted::Refused(why) => verdict::refused(why),
+        Verdict::Refused(why) => verdict::refused(why),
     }
 }

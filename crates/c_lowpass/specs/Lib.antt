@@ -1,9 +1,6 @@
 pub mod Codes
-pub mod Reports
-pub mod Taps
-pub mod Sources
 pub mod Lowpass
 pub mod Spec
-pub mod Buffers
-pub mod Counts
-pub mod Laws
+pub mod Prototype
+pub mod Sources
+pub mod FitsLaws

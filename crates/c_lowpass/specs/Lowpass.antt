@@ -4,11 +4,12 @@ use lib.Ieee.{Float}
 use Rattle.verdict.specs.declared.Refusal.the-variants.{Plain}
 use Rattle.fir_lowpass.specs.declared.lowpass.Designed.{Designed}
 use Rattle.fir_lowpass.specs.declared.lowpass.Designed.the-variants.{Refused}
-use Rattle.fir_lowpass.specs.Outcome.{Outcome, Turned}
+use Rattle.verdict.specs.Outcome.{Outcome}
+use Rattle.verdict.specs.Outcome as Outcome
 use Rattle.fir_lowpass.specs.Lowpass.{lowpassOf, outcomeOf}
 use Rattle.c_lowpass.specs.declared.codes.Coded.{Coded}
 use Rattle.c_lowpass.specs.declared.codes.Coded.the-variants.{Known, Unknown}
-use Rattle.c_lowpass.specs.Taps.{wholeTaps}
+use Rattle.wire.specs.Writes.{wholeTaps}
 
 abbrev pub lowpassCoded : Float → Float → Coded → ℕ → Designed
 lowpassCoded cutoff rate (Known w) n = lowpassOf cutoff rate w n
@@ -17,4 +18,4 @@ lowpassCoded cutoff rate Unknown n = Refused (Plain 7)
 -- eight bytes a tap
 abbrev pub lowpassBytes : Float → Float → Coded → ℕ → Outcome
 lowpassBytes cutoff rate (Known w) len = wholeTaps len (outcomeOf (lowpassOf cutoff rate w (len / 8)))
-lowpassBytes cutoff rate Unknown len = Turned (Plain 7)
+lowpassBytes cutoff rate Unknown len = Outcome.Refused (Plain 7)

@@ -1,9 +1,10 @@
 -- What comes of a low-pass, and what writing its taps needs: the series at its beta, the raw taps that were kept, and room. Definitions only.
-use Prim.Native.Nat.{ℕ, _*_}
+use Prim.Native.Nat.{ℕ}
 use mathlib.Core.Path.{_≡_}
 use mathlib.Core.List.{List}
 use lib.Ieee.{Float}
-use Rattle.fir_lowpass.specs.Outcome.{Outcome, Made, Turned}
+use Rattle.verdict.specs.Outcome.{Outcome}
+use Rattle.wire.specs.Writes.{Room}
 use Rattle.fir_lowpass.specs.Lowpass as Lowpass
 use Rattle.fir_lowpass.specs.Kept.{Keeps, Normed}
 use Rattle.fir_lowpass.specs.declared.lowpass.Lowpass.{Lowpass}
@@ -14,11 +15,6 @@ use Rattle.fir_lowpass.specs.declared.lowpass.Prepared.{Prepared}
 -- what comes of a ticket
 abbrev pub ofLowpass : Designed → Outcome
 ofLowpass d = Lowpass.outcomeOf d
-
--- what comes of a design that is as long as a buffer of len bytes
-abbrev pub Room : ℕ → Outcome → Type 0
-Room len (Made n sum tap) = len ≡ 8 * n
-Room len (Turned why) = Unit {0}
 
 -- ---- what a writer needs of a design, where it is one: the series at its beta, a list that keeps its first raw taps, and a buffer of len bytes for its taps
 pub record FitsLowpass (p : Prepared) (rs : List Float) (len : ℕ) : Type 0 where

@@ -2,10 +2,10 @@
 use Prim.Native.Nat.{ℕ, _/_}
 use lib.Ieee.{Float}
 use Rattle.fir_spec.specs.declared.DesignSpec.{DesignSpec}
-use Rattle.fir_lowpass.specs.Outcome.{Outcome}
+use Rattle.verdict.specs.Outcome.{Outcome}
 use Rattle.fir_lowpass.specs.Lowpass.{outcomeOf}
 use Rattle.fir_spec.specs.Spec.{specDesignOf}
-use Rattle.c_lowpass.specs.Taps.{wholeTaps}
+use Rattle.wire.specs.Writes.{wholeTaps}
 
 abbrev pub specOf : Float → Float → Float → DesignSpec
 specOf cutoff transition attenuation = record { cutoff = cutoff; transition = transition; attenuation = attenuation }

@@ -2,17 +2,18 @@
 use super::codes::Coded;
 use super::codes::window_of;
 use super::told::told_lowpass;
-use super::write::KEPT;
 use super::write::write_lowpass;
 use fir_lowpass::lowpass::Lowpass;
+use ticket_taps::KEPT;
 use verdict::Refusal;
 use verdict::Report;
 ghost use mathlib.Core.Path.{_≡_};
 ghost use lib.ListN.{length};
 ghost use Rattle.c_lowpass.specs.Codes.{windowOf};
 ghost use Rattle.fir_lowpass.specs.Lowpass.{outcomeOf};
-ghost use Rattle.c_lowpass.specs.Reports.{outcomeReport};
-ghost use Rattle.c_lowpass.specs.Taps.{Writes};
+ghost use Rattle.verdict.specs.Reports.{outcomeReport};
+ghost use Rattle.wire.specs.Bytes.{floatBytes};
+ghost use Rattle.wire.specs.Writes.{Writes};
 ghost use Rattle.c_lowpass.specs.Lowpass.{lowpassCoded, lowpassBytes};
 
 // Judges a design and gives its number of taps as the count and the sum that they are divided by as the value. Windows: 0 Hann, 1 Hamming, 2 Blackman, 3 Kaiser with beta, which the others leave out.
@@ -43,7 +44,7 @@ pub extern "C" fn pel_lowpass(
     beta: f64,
     out: &mut [u8],
 ) -> Report
-    ensures { λ r. ⌜ Writes (lowpassBytes cutoff rate (windowOf window beta) (length (now (out .entry)))) (now (out .entry)) r (now (out .exit)) ⌝ }
+    ensures { λ r. ⌜ Writes floatBytes (lowpassBytes cutoff rate (windowOf window beta) (length (now (out .entry)))) (now (out .entry)) r (now (out .exit)) ⌝ }
 {
     let coded = window_of(window, beta);
     match coded {

@@ -1,17 +1,18 @@
 // The channelizer's prototype, as exports: how many taps its edges need, the design judged, and its taps in a buffer.
-use super::told::told_length;
 use super::told::told_lowpass;
-use super::write::KEPT;
 use super::write::write_lowpass;
+use ticket_taps::KEPT;
 use verdict::Refusal;
 use verdict::Report;
+use verdict::told_length;
 ghost use mathlib.Core.Path.{_≡_};
 ghost use lib.ListN.{length};
 ghost use Rattle.fir_lowpass.specs.Lowpass.{outcomeOf};
 ghost use Rattle.fir_channelizer.specs.Channelizer.{channelizerTapsOf, branchOf, channelizerLowpassOf};
-ghost use Rattle.c_lowpass.specs.Reports.{lengthReport, outcomeReport};
-ghost use Rattle.c_lowpass.specs.Taps.{Writes};
-ghost use Rattle.c_lowpass.specs.Buffers.{channelizerBytes};
+ghost use Rattle.verdict.specs.Reports.{lengthReport, outcomeReport};
+ghost use Rattle.wire.specs.Bytes.{floatBytes};
+ghost use Rattle.wire.specs.Writes.{Writes};
+ghost use Rattle.c_lowpass.specs.Prototype.{channelizerBytes};
 
 // How many taps Kaiser's estimate has for band edges in channel spacings and an attenuation in dB, as the count; not made odd. Refused, in this order: 6 channels that aren't a power of two from 4 to 256; 2 a passband that isn't finite and positive; 2 a stopband that isn't above it and at most 1.5; 4 with 20, 120, attenuation; 3 where the estimate isn't finite or is above 2^24. Example: (16, 0.5, 1, 60) has 118 taps.
 #[no_mangle]
@@ -36,7 +37,12 @@ pub extern "C" fn pel_channelizer_taps_per_branch(
 ) -> Report
     ensures { λ r. ⌜ r ≡ lengthReport (branchOf channels (channelizerTapsOf channels passband stopband attenuation)) ⌝ }
 {
-    told_length(fir_channelizer::channelizer_taps_per_branch(channels, passband, stopband, attenuation))
+    told_length(fir_channelizer::channelizer_taps_per_branch(
+        channels,
+        passband,
+        stopband,
+        attenuation,
+    ))
 }
 
 // Judges the prototype of channels · branch taps: their number as the count, the sum that they are divided by as the value. Refused, in this order: 6 the channels; 6 a branch that isn't 4 to 32 taps; 2, 2, 4 as pel_channelizer_taps; then as pel_lowpass_new with the cutoff (passband + stopband)/(2 channels) at rate 1 and Kaiser's window.
@@ -69,7 +75,7 @@ pub extern "C" fn pel_channelizer_prototype(
     attenuation: f64,
     out: &mut [u8],
 ) -> Report
-    ensures { λ r. ⌜ Writes (channelizerBytes channels branch passband stopband attenuation (length (now (out .entry)))) (now (out .entry)) r (now (out .exit)) ⌝ }
+    ensures { λ r. ⌜ Writes floatBytes (channelizerBytes channels branch passband stopband attenuation (length (now (out .entry)))) (now (out .entry)) r (now (out .exit)) ⌝ }
 {
     let len = out.len() as u64;
     if len % 8 != 0 {

@@ -1,17 +1,18 @@
 // The low-pass by its specification, as exports: how many taps it needs, the design judged, and its taps in a buffer.
-use super::told::told_length;
 use super::told::told_lowpass;
-use super::write::KEPT;
 use super::write::write_lowpass;
 use fir_spec::DesignSpec;
+use ticket_taps::KEPT;
 use verdict::Refusal;
 use verdict::Report;
+use verdict::told_length;
 ghost use mathlib.Core.Path.{_≡_};
 ghost use lib.ListN.{length};
 ghost use Rattle.fir_spec.specs.Spec.{numTapsOf, specLowpassOf};
 ghost use Rattle.fir_lowpass.specs.Lowpass.{outcomeOf};
-ghost use Rattle.c_lowpass.specs.Reports.{lengthReport, outcomeReport};
-ghost use Rattle.c_lowpass.specs.Taps.{Writes};
+ghost use Rattle.verdict.specs.Reports.{lengthReport, outcomeReport};
+ghost use Rattle.wire.specs.Bytes.{floatBytes};
+ghost use Rattle.wire.specs.Writes.{Writes};
 ghost use Rattle.c_lowpass.specs.Spec.{specOf, specBytes};
 
 // How many taps the specification needs, as the count: odd, at most the cap. The transition lies around the cutoff, the attenuation in dB beyond it.
@@ -63,7 +64,7 @@ pub extern "C" fn pel_spec_design(
     cap: u64,
     out: &mut [u8],
 ) -> Report
-    ensures { λ r. ⌜ Writes (specBytes (specOf cutoff transition attenuation) rate cap (length (now (out .entry)))) (now (out .entry)) r (now (out .exit)) ⌝ }
+    ensures { λ r. ⌜ Writes floatBytes (specBytes (specOf cutoff transition attenuation) rate cap (length (now (out .entry)))) (now (out .entry)) r (now (out .exit)) ⌝ }
 {
     let len = out.len() as u64;
     if len % 8 != 0 {

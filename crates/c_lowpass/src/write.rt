@@ -1,20 +1,18 @@
 // A low-pass's taps in a buffer that it fits, and the report of it; a refusal told.
 use fir_lowpass::lowpass::Designed;
 use fir_lowpass::lowpass::Prepared;
-use verdict::Report;
 use ticket_taps::Source;
 use ticket_taps::put_taps;
+use verdict::Report;
 ghost use lib.ListN.{length};
-ghost use Rattle.c_lowpass.specs.Taps.{Writes};
+ghost use Rattle.wire.specs.Bytes.{floatBytes};
+ghost use Rattle.wire.specs.Writes.{Writes};
 ghost use Rattle.c_lowpass.specs.Sources.{ofLowpass, FitsLowpass};
-
-// How many raw taps an export keeps while it designs, so that each is worked out once: 8 kilobytes.
-pub const KEPT: usize = 1024;
 
 // Writes the taps of a low-pass that the buffer fits, and tells their number and their divisor; tells a refusal, and leaves the buffer.
 pub(crate) fn write_lowpass(p: Prepared, raws: &[f64], out: &mut [u8]) -> Report
     requires { ⌜ FitsLowpass p (now raws) (length (now out)) ⌝ }
-    ensures { λ r. ⌜ Writes (ofLowpass (p .designed)) (now (out .entry)) r (now (out .exit)) ⌝ }
+    ensures { λ r. ⌜ Writes floatBytes (ofLowpass (p .designed)) (now (out .entry)) r (now (out .exit)) ⌝ }
 {
     let designed = p.designed;
     match designed {

@@ -1,12 +1,12 @@
 // How many taps a design needs and how long it delays, as exports on numbers.
-use c_lowpass::told::told_length;
 use fir_delay::Delayed;
 use fir_length::order::Order;
 use verdict::Report;
+use verdict::told_length;
 ghost use mathlib.Core.Path.{_≡_};
 ghost use Rattle.fir_delay.specs.Delay.{delayOf};
 ghost use Rattle.fir_length.specs.Kaiser.{orderOf, halfbandLenOf};
-ghost use Rattle.c_lowpass.specs.Reports.{lengthReport};
+ghost use Rattle.verdict.specs.Reports.{lengthReport};
 ghost use Rattle.c_math.specs.Reports.{orderReport, delayReport};
 
 // Kaiser's estimate for a ripple in dB: the taps as the count, 1 to 16777217 and odd, and beta as the value. Refused: 4 where the ripple's size isn't finite or is below 8; 3 where 2 transition / rate isn't finite and positive; 3 with 0, rate, transition where the estimate is above 2^24. Example: (60, 100, 8000) has 293 taps.

@@ -1,3 +1,3 @@
+pub mod Buffers
 pub mod Sources
-pub mod Counts
-pub mod Laws
+pub mod FitsLaws

@@ -3,7 +3,7 @@ use Prim.Native.Nat.{ℕ}
 use mathlib.Core.Path.{_≡_}
 use mathlib.Core.List.{List}
 use lib.Ieee.{Float}
-use Rattle.fir_lowpass.specs.Outcome.{Outcome}
+use Rattle.verdict.specs.Outcome.{Outcome}
 use Rattle.fir_sinc.specs.Windows.{normOf}
 use Rattle.fir_lowpass.specs.Kept.{Keeps}
 use Rattle.fir_halfband.specs.Halfband as Halfband
@@ -17,7 +17,7 @@ use Rattle.fir_gaussian.specs.declared.gaussian_design.GaussianDesigned.{Gaussi
 use Rattle.fir_gaussian.specs.declared.gaussian_design.GaussianDesigned.the-variants as GaussianDesigned
 use Rattle.fir_rrc.specs.Rrc as Rrc
 use Rattle.fir_rrc.specs.declared.design.RrcDesigned.{RrcDesigned}
-use Rattle.c_lowpass.specs.Sources.{Room}
+use Rattle.wire.specs.Writes.{Room}
 
 -- what comes of a ticket, by kind
 abbrev pub ofHalfband : HalfbandDesigned → Outcome

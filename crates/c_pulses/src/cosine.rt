@@ -1,16 +1,17 @@
 // The root-raised-cosine pulse, as exports: how many taps, the design judged, and its taps in a buffer.
 use super::write::write_rrc;
-use c_lowpass::told::told_length;
 use fir_rrc::design::Rrc;
 use fir_rrc::design::RrcDesigned;
 use verdict::Refusal;
 use verdict::Report;
+use verdict::told_length;
 ghost use mathlib.Core.Path.{_≡_};
 ghost use lib.ListN.{length};
 ghost use Rattle.fir_rrc.specs.Rrc.{rrcLenOf, rrcOf, outcomeOf};
-ghost use Rattle.c_lowpass.specs.Reports.{lengthReport, outcomeReport};
-ghost use Rattle.c_lowpass.specs.Taps.{Writes};
-ghost use Rattle.c_lowpass.specs.Buffers.{rrcBytes};
+ghost use Rattle.verdict.specs.Reports.{lengthReport, outcomeReport};
+ghost use Rattle.wire.specs.Bytes.{floatBytes};
+ghost use Rattle.wire.specs.Writes.{Writes};
+ghost use Rattle.c_pulses.specs.Buffers.{rrcBytes};
 
 // How many taps a pulse of so many samples a symbol and a span of so many symbols has, as the count: span · samples + 1. Refused, in this order: 6 with 2, 1024, samples; 6 with 4, 32, span. Example: (2, 4) has 9.
 #[no_mangle]
@@ -35,7 +36,7 @@ pub extern "C" fn pel_rrc_new(rolloff: f64, samples: u64, span: u64) -> Report
 // Fills the buffer with the taps of the pulse, eight bytes each, the lowest first; answers as pel_rrc_new. Refused, in this order: 8 a length that isn't a multiple of 8, with the length to the last whole tap and the length, in bytes; as pel_rrc_new; 8 a buffer for another number of taps, with both numbers of taps. A refusal leaves the buffer as it came.
 #[no_mangle]
 pub extern "C" fn pel_rrc(rolloff: f64, samples: u64, span: u64, out: &mut [u8]) -> Report
-    ensures { λ r. ⌜ Writes (rrcBytes rolloff samples span (length (now (out .entry)))) (now (out .entry)) r (now (out .exit)) ⌝ }
+    ensures { λ r. ⌜ Writes floatBytes (rrcBytes rolloff samples span (length (now (out .entry)))) (now (out .entry)) r (now (out .exit)) ⌝ }
 {
     let len = out.len() as u64;
     if len % 8 != 0 {

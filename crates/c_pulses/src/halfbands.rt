@@ -1,16 +1,17 @@
 // The half-band filter, as exports: the design judged, and its taps in a buffer.
 use super::write::write_halfband;
-use c_lowpass::write::KEPT;
 use fir_halfband::HalfbandDesign;
 use fir_halfband::HalfbandDesigned;
+use ticket_taps::KEPT;
 use verdict::Refusal;
 use verdict::Report;
 ghost use mathlib.Core.Path.{_≡_};
 ghost use lib.ListN.{length};
 ghost use Rattle.fir_halfband.specs.Halfband.{halfbandOf, outcomeOf};
-ghost use Rattle.c_lowpass.specs.Reports.{outcomeReport};
-ghost use Rattle.c_lowpass.specs.Taps.{Writes};
-ghost use Rattle.c_lowpass.specs.Buffers.{halfbandBytes};
+ghost use Rattle.verdict.specs.Reports.{outcomeReport};
+ghost use Rattle.wire.specs.Bytes.{floatBytes};
+ghost use Rattle.wire.specs.Writes.{Writes};
+ghost use Rattle.c_pulses.specs.Buffers.{halfbandBytes};
 
 // Judges a half-band of so many taps with Kaiser's window: their number as the count, the sum that they are divided by last as the value. Refused, in this order: 6 where the taps aren't 3 over a multiple of 4, or are more than 2^24; 4 a beta that isn't finite and not negative; 10 a sum that is 0 or not finite. Example: 5 taps are refused with 6.
 #[no_mangle]
@@ -27,7 +28,7 @@ pub extern "C" fn pel_halfband_new(beta: f64, taps: u64) -> Report
 // Fills the buffer with the taps of a half-band, eight bytes each, the lowest first, as many as it has room for; answers as pel_halfband_new. Refused first: 8 a length that isn't a multiple of 8, with the length to the last whole tap and the length, in bytes; then as that. A refusal leaves the buffer as it came.
 #[no_mangle]
 pub extern "C" fn pel_halfband(beta: f64, out: &mut [u8]) -> Report
-    ensures { λ r. ⌜ Writes (halfbandBytes beta (length (now (out .entry)))) (now (out .entry)) r (now (out .exit)) ⌝ }
+    ensures { λ r. ⌜ Writes floatBytes (halfbandBytes beta (length (now (out .entry)))) (now (out .entry)) r (now (out .exit)) ⌝ }
 {
     let len = out.len() as u64;
     if len % 8 != 0 {

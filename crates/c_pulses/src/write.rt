@@ -1,20 +1,21 @@
 // The taps of a half-band or a pulse in a buffer that it fits, and the report of it; a refusal told.
+use fir_gaussian::gaussian_design::GaussianDesigned;
 use fir_halfband::HalfbandDesigned;
 use fir_halfband::HalfbandPrepared;
-use fir_gaussian::gaussian_design::GaussianDesigned;
 use fir_rrc::design::RrcDesigned;
-use verdict::Report;
 use ticket_taps::Source;
 use ticket_taps::put_taps;
+use verdict::Report;
 ghost use lib.ListN.{length};
-ghost use Rattle.c_lowpass.specs.Taps.{Writes};
-ghost use Rattle.c_lowpass.specs.Sources.{Room};
+ghost use Rattle.wire.specs.Bytes.{floatBytes};
+ghost use Rattle.wire.specs.Writes.{Writes};
+ghost use Rattle.wire.specs.Writes.{Room};
 ghost use Rattle.c_pulses.specs.Sources.{ofHalfband, ofGaussian, ofRrc, FitsHalfband, FitsGaussian};
 
 // Writes the taps of a half-band that the buffer fits, and tells their number and their divisor; tells a refusal, and leaves the buffer.
 pub(crate) fn write_halfband(p: HalfbandPrepared, raws: &[f64], out: &mut [u8]) -> Report
     requires { ⌜ FitsHalfband p (now raws) (length (now out)) ⌝ }
-    ensures { λ r. ⌜ Writes (ofHalfband (p .designed)) (now (out .entry)) r (now (out .exit)) ⌝ }
+    ensures { λ r. ⌜ Writes floatBytes (ofHalfband (p .designed)) (now (out .entry)) r (now (out .exit)) ⌝ }
 {
     let designed = p.designed;
     match designed {
@@ -29,7 +30,7 @@ pub(crate) fn write_halfband(p: HalfbandPrepared, raws: &[f64], out: &mut [u8]) 
 // The same of a Gaussian.
 pub(crate) fn write_gaussian(designed: GaussianDesigned, raws: &[f64], out: &mut [u8]) -> Report
     requires { ⌜ FitsGaussian designed (now raws) (length (now out)) ⌝ }
-    ensures { λ r. ⌜ Writes (ofGaussian designed) (now (out .entry)) r (now (out .exit)) ⌝ }
+    ensures { λ r. ⌜ Writes floatBytes (ofGaussian designed) (now (out .entry)) r (now (out .exit)) ⌝ }
 {
     match designed {
         GaussianDesigned::Ready(g) => {
@@ -43,7 +44,7 @@ pub(crate) fn write_gaussian(designed: GaussianDesigned, raws: &[f64], out: &mut
 // The same of a root-raised cosine, of which no raw tap is kept.
 pub(crate) fn write_rrc(designed: RrcDesigned, out: &mut [u8]) -> Report
     requires { ⌜ Room (length (now out)) (ofRrc designed) ⌝ }
-    ensures { λ r. ⌜ Writes (ofRrc designed) (now (out .entry)) r (now (out .exit)) ⌝ }
+    ensures { λ r. ⌜ Writes floatBytes (ofRrc designed) (now (out .entry)) r (now (out .exit)) ⌝ }
 {
     match designed {
         RrcDesigned::Ready(d) => {

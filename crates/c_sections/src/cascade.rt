@@ -2,33 +2,33 @@
 use super::codes::Coded;
 use super::codes::response_of;
 use super::write::write_numbers;
-use fir_lowpass::lowpass::Filled;
+use iir_biquad::biquad::Response;
 use verdict::Refusal;
 use verdict::Report;
-use iir_biquad::biquad::Response;
-use iir_biquad::biquad::Verdict;
+use verdict::Verdict;
 ghost use mathlib.Core.Path.{_≡_};
 ghost use Prim.Native.Nat.{_/_, _%_};
 ghost use lib.ListN.{length};
 ghost use Rattle.iir_butterworth.specs.Butterworth.{butterworthOf};
-ghost use Rattle.c_lowpass.specs.Taps.{Writes};
+ghost use Rattle.wire.specs.Bytes.{floatBytes};
+ghost use Rattle.wire.specs.Writes.{Writes};
 ghost use Rattle.c_sections.specs.Codes.{responseOf};
 ghost use Rattle.c_sections.specs.Numbers.{butterworthBytes};
 
 // Judged first, since only a filter that is taken has few enough numbers for the array: the highest order has 20.
 fn write_cascade(response: Response, order: u64, cutoff: f64, rate: f64, out: &mut [u8]) -> Report
     requires { ⌜ length (now out) % 8 ≡ 0 ⌝ }
-    ensures { λ r. ⌜ Writes (butterworthOf response order cutoff rate (length (now (out .entry)) / 8)) (now (out .entry)) r (now (out .exit)) ⌝ }
+    ensures { λ r. ⌜ Writes floatBytes (butterworthOf response order cutoff rate (length (now (out .entry)) / 8)) (now (out .entry)) r (now (out .exit)) ⌝ }
 {
     let n = out.len() / 8;
     let judged = iir_butterworth::judge(response, order, cutoff, rate, n as u64);
     match judged {
-        Filled::Done => {
+        Verdict::Done => {
             let mut numbers = [0.0f64; 20];
             iir_butterworth::butterworth_sos(response, order, cutoff, rate, &mut numbers[..n]);
-            write_numbers(Verdict::Fine, &numbers[..n], &mut *out)
+            write_numbers(Verdict::Done, &numbers[..n], &mut *out)
         }
-        Filled::Refused(why) => verdict::refused(why),
+        Verdict::Refused(why) => verdict::refused(why),
     }
 }
 
@@ -42,7 +42,7 @@ pub extern "C" fn pel_butterworth_sos(
     rate: f64,
     out: &mut [u8],
 ) -> Report
-    ensures { λ r. ⌜ Writes (butterworthBytes (responseOf response) order cutoff rate (length (now (out .entry)))) (now (out .entry)) r (now (out .exit)) ⌝ }
+    ensures { λ r. ⌜ Writes floatBytes (butterworthBytes (responseOf response) order cutoff rate (length (now (out .entry)))) (now (out .entry)) r (now (out .exit)) ⌝ }
 {
     let coded = response_of(response);
     match coded {

@@ -2,12 +2,13 @@
 use super::codes::Coded;
 use super::codes::response_of;
 use super::write::write_numbers;
-use verdict::Refusal;
-use verdict::Report;
 use iir_biquad::biquad::biquad_coefs;
 use iir_biquad::preemphasis::preemphasis_coefs;
+use verdict::Refusal;
+use verdict::Report;
 ghost use lib.ListN.{length};
-ghost use Rattle.c_lowpass.specs.Taps.{Writes};
+ghost use Rattle.wire.specs.Bytes.{floatBytes};
+ghost use Rattle.wire.specs.Writes.{Writes};
 ghost use Rattle.c_sections.specs.Codes.{responseOf};
 ghost use Rattle.c_sections.specs.Numbers.{biquadBytes, preemphasisBytes};
 
@@ -21,7 +22,7 @@ pub extern "C" fn pel_biquad_coefs(
     rate: f64,
     out: &mut [u8],
 ) -> Report
-    ensures { λ r. ⌜ Writes (biquadBytes (responseOf response) centre q rate (length (now (out .entry)))) (now (out .entry)) r (now (out .exit)) ⌝ }
+    ensures { λ r. ⌜ Writes floatBytes (biquadBytes (responseOf response) centre q rate (length (now (out .entry)))) (now (out .entry)) r (now (out .exit)) ⌝ }
 {
     let coded = response_of(response);
     match coded {
@@ -43,7 +44,7 @@ pub extern "C" fn pel_biquad_coefs(
 // Refused, in this order: 8 with 24 and the length in bytes; 5 with 0, 0.001, tau where tau isn't above 0 and at most 0.001; 1 with 40000, infinity, rate where the rate isn't finite and at least 40000. A refusal leaves the buffer as it came.
 #[no_mangle]
 pub extern "C" fn pel_preemphasis_coefs(tau: f64, rate: f64, out: &mut [u8]) -> Report
-    ensures { λ r. ⌜ Writes (preemphasisBytes tau rate (length (now (out .entry)))) (now (out .entry)) r (now (out .exit)) ⌝ }
+    ensures { λ r. ⌜ Writes floatBytes (preemphasisBytes tau rate (length (now (out .entry)))) (now (out .entry)) r (now (out .exit)) ⌝ }
 {
     let len = out.len() as u64;
     if len != 24 {

@@ -1,4 +1,4 @@
 pub mod Codes
 pub mod Samples
-pub mod FillLaws
+pub mod RoomLaws
 pub mod WriteLaws

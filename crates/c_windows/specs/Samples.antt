@@ -1,21 +1,18 @@
 -- A window for a buffer of bytes, each sample an f32 or a Q15 number. Definitions only.
-use Prim.Native.Nat.{ℕ, _-_, _/_, _%_}
-use mathlib.Core.Path.{_≡_}
+use Prim.Native.Nat.{ℕ, _/_}
 use mathlib.Core.Bool.{cond}
 use mathlib.Core.List.{List}
-use lib.Dec.{eqb}
 use lib.Ieee.{Float, binary32, toBits}
 use Rattle.laws.specs.Binary64.{whole}
-use Rattle.laws.specs.Chunks.{chunks}
 use Rattle.wire.specs.Bytes.{bytesOf, twosOf}
-use Rattle.verdict.specs.declared.Refusal.the-variants.{Plain, Length}
-use Rattle.verdict.specs.declared.Report.{Report}
-use Rattle.fir_lowpass.specs.Outcome.{Outcome, Made, Turned}
+use Rattle.wire.specs.Writes.{wholeElements}
+use Rattle.verdict.specs.declared.Refusal.the-variants.{Plain}
+use Rattle.verdict.specs.Outcome.{Outcome}
+use Rattle.verdict.specs.Outcome as Outcome
 use Rattle.fmt_q15.specs.Q15.{q15Of}
 use Rattle.fmt_f32.specs.Single.{singleOf}
 use Rattle.win_sampled.specs.Shapes.{shapeTaken, windowAt}
 use Rattle.win_sampled.specs.declared.shape.Shape.{Shape}
-use Rattle.c_lowpass.specs.Reports.{outcomeReport}
 use Rattle.c_windows.specs.declared.codes.Coded.{Coded}
 use Rattle.c_windows.specs.declared.codes.Coded.the-variants.{Known, Unknown}
 use Rattle.c_windows.specs.declared.sample.Sample.{Sample}
@@ -38,19 +35,8 @@ sampleBytes s x = bytesOf (widthOf s) (patternOf s x)
 abbrev pub windowBytes : Sample → Shape → Coded → ℕ → Outcome
 windowBytes s shape (Known symmetry) len =
     let n = len / widthOf s in
-    cond (eqb (len % widthOf s) 0)
+    wholeElements (widthOf s) len
     (cond (shapeTaken shape)
-    (Made n (whole 0) (windowAt shape symmetry n))
-    (Turned (Plain 4)))
-    (Turned (Length (len - len % widthOf s) len))
-windowBytes s shape Unknown len = Turned (Plain 7)
-
--- every sample, the first one first, or as it came
-abbrev pub written : Sample → Outcome → List ℕ → List ℕ
-written s (Made n sum tap) d = chunks n (λ i. sampleBytes s (tap i))
-written s (Turned why) d = d
-
--- what the answer and the buffer are afterwards
-pub record WritesSamples (s : Sample) (o : Outcome) (before : List ℕ) (r : Report) (after : List ℕ) : Type 0 where
-  pub answer : r ≡ outcomeReport o
-  pub buffer : after ≡ written s o before
+    (Outcome.Designed n (whole 0) (windowAt shape symmetry n))
+    (Outcome.Refused (Plain 4)))
+windowBytes s shape Unknown len = Outcome.Refused (Plain 7)

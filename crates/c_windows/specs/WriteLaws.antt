@@ -1,5 +1,5 @@
 -- What is answered and what stands in the buffer, from what the code and the tests of a ticket said. Assumes nothing.
-use mathlib.Core.Path.{_≡_, sym, ap, _∙_}
+use mathlib.Core.Path.{_≡_, _∙_}
 use mathlib.Core.List.{List}
 use mathlib.Core.Bool.{Bool, true, false, not}
 use Prim.Native.Nat.{ℕ, _-_, _/_, _%_}
@@ -8,35 +8,24 @@ use lib.ListN.{length}
 use lib.Ieee.{Float}
 use Rattle.laws.specs.Binary64.{whole}
 use Rattle.laws.specs.Chunks.{chunks}
-use Rattle.verdict.specs.declared.Refusal.{Refusal}
 use Rattle.verdict.specs.declared.Refusal.the-variants.{Plain, Length}
 use Rattle.verdict.specs.declared.Report.{Report}
 use Rattle.verdict.specs.Report.{reportOf, acceptedOf}
-use Rattle.fir_lowpass.specs.Outcome.{Outcome, Made, Turned}
+use Rattle.wire.specs.Writes.{Writes}
+use Rattle.wire.specs.WritesLaws.{leaves, fills}
 use Rattle.win_sampled.specs.Shapes.{shapeTaken, normOf, divisorOf, sampleAt, windowAt}
 use Rattle.win_sampled.specs.declared.shape.Shape.{Shape}
 use Rattle.win_sampled.specs.declared.shape.Symmetry.{Symmetry}
-use Rattle.c_lowpass.specs.Reports.{outcomeReport}
 use Rattle.c_windows.specs.declared.codes.Coded.{Coded}
 use Rattle.c_windows.specs.declared.codes.Coded.the-variants.{Known, Unknown}
 use Rattle.c_windows.specs.declared.sample.Sample.{Sample}
-use Rattle.c_windows.specs.Samples.{widthOf, sampleBytes, windowBytes, written, WritesSamples}
-
--- ---- by what comes of a ticket
-module _ {s : Sample} {o : Outcome} {before : List ℕ} {r : Report} where
-  -- a refusal, told and with the buffer as it came
-  leaves : {why : Refusal} → o ≡ Turned why → r ≡ reportOf why → WritesSamples s o before r before
-  leaves e told = record { answer = told ∙ ap outcomeReport (sym e); buffer = ap (λ (p : Outcome). written s p before) (sym e) }
-
-  -- a window, told and with all of its samples
-  fills : {n : ℕ} {sum : Float} {tap : ℕ → Float} {after : List ℕ} → o ≡ Made n sum tap → r ≡ acceptedOf n sum → after ≡ chunks n (λ i. sampleBytes s (tap i)) → WritesSamples s o before r after
-  fills e told put = record { answer = told ∙ ap outcomeReport (sym e); buffer = put ∙ ap (λ (p : Outcome). written s p before) (sym e) }
+use Rattle.c_windows.specs.Samples.{widthOf, sampleBytes, windowBytes}
 
 -- ---- by its code and its tests
 abbrev WritesWindow : Sample → Shape → Coded → List ℕ → Report → List ℕ → Type 0
-WritesWindow s shape coded before r after = WritesSamples s (windowBytes s shape coded (length before)) before r after
+WritesWindow s shape coded before r after = Writes (sampleBytes s) (windowBytes s shape coded (length before)) before r after
 
-module _ {s : Sample} (shape : Shape) {coded : Coded} {before : List ℕ} {r : Report} where
+module _ (s : Sample) (shape : Shape) {coded : Coded} {before : List ℕ} {r : Report} where
   pub unknown-code : coded ≡ Unknown → r ≡ reportOf (Plain 7) → WritesWindow s shape coded before r before
   unknown-code e told = leaves (rw e) told
 

@@ -12,14 +12,14 @@ use Rattle.math_numbers.specs.Numbers.{positive}
 use Rattle.math_round.specs.Whole.{ceilOf}
 use Rattle.verdict.specs.declared.Refusal.the-variants as Refusal
 use Rattle.fir_length.specs.Kaiser.{betaOf, estimate}
-use Rattle.fir_length.specs.declared.order.Length.{Length}
-use Rattle.fir_length.specs.declared.order.Length.the-variants as Length
+use Rattle.verdict.specs.declared.Length.{Length}
+use Rattle.verdict.specs.declared.Length.the-variants as Length
 use Rattle.fir_lowpass.specs.Lowpass.{lowpassOf}
 use Rattle.fir_sinc.specs.declared.window.Window.the-variants.{Kaiser}
 use Rattle.fir_lowpass.specs.declared.lowpass.Designed.{Designed}
 use Rattle.fir_lowpass.specs.declared.lowpass.Designed.the-variants as Designed
-use Rattle.fir_channelizer.specs.declared.Checked.{Checked}
-use Rattle.fir_channelizer.specs.declared.Checked.the-variants as Checked
+use Rattle.verdict.specs.declared.Verdict.{Verdict}
+use Rattle.verdict.specs.declared.Verdict.the-variants as Verdict
 
 -- ---- the judgement
 -- a power of two from 4 to 256
@@ -35,25 +35,25 @@ stopTaken passband stopband = finite stopband && (lt passband stopband && le sto
 unfoldable pub attenuationTaken : Float → Bool
 attenuationTaken a = le (whole 20) a && le a (whole 120)
 
-unfoldable pub edgesOf : Float → Float → Float → Checked
+unfoldable pub edgesOf : Float → Float → Float → Verdict
 unfolding stopTaken attenuationTaken
 edgesOf passband stopband a =
     cond (positive passband)
     (cond (stopTaken passband stopband)
     (cond (attenuationTaken a)
-    Checked.Fine
-    (Checked.Refused (Refusal.Range 4 (whole 20) (whole 120) a)))
-    (Checked.Refused (Refusal.Plain 2)))
-    (Checked.Refused (Refusal.Plain 2))
+    Verdict.Done
+    (Verdict.Refused (Refusal.Range 4 (whole 20) (whole 120) a)))
+    (Verdict.Refused (Refusal.Plain 2)))
+    (Verdict.Refused (Refusal.Plain 2))
 
 -- ---- the number of taps
 unfoldable pub countTaken : Float → Bool
 countTaken num = finite num && le num (whole 16777216)
 
 -- for edges that were checked, by the estimate
-abbrev pub tapsIn : Checked → Float → Length
-tapsIn Checked.Fine num = cond (countTaken num) (Length.Taps (toUnsigned 64 (ceilOf num))) (Length.Refused (Refusal.Plain 3))
-tapsIn (Checked.Refused why) num = Length.Refused why
+abbrev pub tapsIn : Verdict → Float → Length
+tapsIn Verdict.Done num = cond (countTaken num) (Length.Taps (toUnsigned 64 (ceilOf num))) (Length.Refused (Refusal.Plain 3))
+tapsIn (Verdict.Refused why) num = Length.Refused why
 
 unfoldable pub channelizerTapsOf : ℕ → Float → Float → Float → Length
 unfolding channelsTaken edgesOf countTaken
@@ -68,9 +68,9 @@ branchOf m (Length.Taps n) = Length.Taps (upward n m)
 branchOf m (Length.Refused why) = Length.Refused why
 
 -- ---- the prototype
-abbrev pub lowpassIn : Checked → Designed → Designed
-lowpassIn Checked.Fine design = design
-lowpassIn (Checked.Refused why) design = Designed.Refused why
+abbrev pub lowpassIn : Verdict → Designed → Designed
+lowpassIn Verdict.Done design = design
+lowpassIn (Verdict.Refused why) design = Designed.Refused why
 
 -- a ticket is accepted where the answer is `Ready`
 unfoldable pub channelizerLowpassOf : ℕ → ℕ → Float → Float → Float → Designed

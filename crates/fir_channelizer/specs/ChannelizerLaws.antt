@@ -15,9 +15,9 @@ use Rattle.laws.specs.Tests.{both}
 use Rattle.verdict.specs.declared.Refusal.{Refusal}
 use Rattle.verdict.specs.declared.Refusal.the-variants as Refusal
 use Rattle.fir_length.specs.Kaiser.{betaOf, estimate}
-use Rattle.fir_length.specs.declared.order.Length.{Length}
-use Rattle.fir_length.specs.declared.order.Length.the-variants as Length
-use Rattle.fir_lowpass.specs.Lowpass.{lowpassOf}
+use Rattle.verdict.specs.declared.Length.{Length}
+use Rattle.verdict.specs.declared.Length.the-variants as Length
+use Rattle.fir_lowpass.specs.Lowpass.{lowpassOf, outcomeOf}
 use Rattle.fir_lowpass.specs.LowpassLaws.{never, prepares-as, prepares-refusal}
 use Rattle.fir_lowpass.specs.Kept.{Prepares}
 use Rattle.fir_sinc.specs.declared.window.Window.the-variants.{Kaiser}
@@ -26,8 +26,9 @@ use Rattle.fir_lowpass.specs.declared.lowpass.Designed.{Designed}
 use Rattle.fir_lowpass.specs.declared.lowpass.Designed.the-variants as Designed
 use Rattle.fir_lowpass.specs.declared.lowpass.Prepared.{Prepared}
 use Rattle.fir_channelizer.specs.Channelizer.{channelsTaken, branchTaken, edgesOf, tapsIn, channelizerTapsOf, lowpassIn, channelizerLowpassOf, fittedOf}
-use Rattle.fir_channelizer.specs.declared.Checked.{Checked}
-use Rattle.fir_channelizer.specs.declared.Checked.the-variants as Checked
+use Rattle.verdict.specs.declared.Verdict.{Verdict}
+use Rattle.verdict.specs.declared.Verdict.the-variants as Verdict
+use Rattle.verdict.specs.Counted.{Counted, where-equal}
 
 -- ---- the numbers that are taken
 -- a number of channels: 4 to 256
@@ -133,9 +134,9 @@ pub accepted : (m l : ℕ) (passband stopband a : Float) (d : Lowpass) → chann
 unfolding channelizerLowpassOf
 accepted m l passband stopband a d e = go (channelsTaken m) (branchTaken l) (edgesOf passband stopband a) (prototypeOf m l passband stopband a) e
   where
-    go : (b c : Bool) (k : Checked) (p : Designed) → cond b (cond c (lowpassIn k p) (Designed.Refused (Refusal.Plain 6))) (Designed.Refused (Refusal.Plain 6)) ≡ Designed.Ready d → p ≡ Designed.Ready d
-    go true true Checked.Fine p e = e
-    go true true (Checked.Refused why) p e = absurd (never why d e)
+    go : (b c : Bool) (k : Verdict) (p : Designed) → cond b (cond c (lowpassIn k p) (Designed.Refused (Refusal.Plain 6))) (Designed.Refused (Refusal.Plain 6)) ≡ Designed.Ready d → p ≡ Designed.Ready d
+    go true true Verdict.Done p e = e
+    go true true (Verdict.Refused why) p e = absurd (never why d e)
     go true false k p e = absurd (never (Refusal.Plain 6) d e)
     go false c k p e = absurd (never (Refusal.Plain 6) d e)
 
@@ -156,3 +157,8 @@ pub fitted-accepted : (m l : ℕ) (passband stopband a : Float) (len : ℕ) (d :
 fitted-accepted m l passband stopband a len d e =
     let f = fitted-is (channelizerLowpassOf m l passband stopband a) len d e in
     record { is = accepted m l passband stopband a d (f .0); long = f .1 }
+
+-- so an accepted one has as many taps as its buffer has elements
+pub channelizer-count : (d : Designed) (len : ℕ) → Counted len (outcomeOf (fittedOf d len))
+channelizer-count (Designed.Ready l) len = where-equal outcomeOf len _ _ (l .n) len (λ e. e) tt
+channelizer-count (Designed.Refused why) len = tt

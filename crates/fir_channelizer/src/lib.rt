@@ -1,22 +1,16 @@
 // The prototype filter of a channelizer: how many taps its band edges need, and the low-pass itself.
 use fir_lowpass::lowpass::Designed;
-use fir_lowpass::lowpass::Filled;
 use fir_lowpass::lowpass::Prepared;
-use fir_length::order::Length;
 use fir_sinc::window::Window;
+use verdict::Length;
 use verdict::Refusal;
+use verdict::Verdict;
 ghost use mathlib.Core.Path.{_≡_};
 ghost use lib.ListN.{length};
-ghost use Rattle.fir_lowpass.specs.Outcome.{Fills};
+ghost use Rattle.verdict.specs.Outcome.{Fills};
 ghost use Rattle.fir_lowpass.specs.Lowpass.{outcomeOf};
 ghost use Rattle.fir_lowpass.specs.Kept.{Prepares};
 ghost use Rattle.fir_channelizer.specs.Channelizer.{channelsTaken, branchTaken, stopTaken, attenuationTaken, edgesOf, countTaken, channelizerTapsOf, branchOf, channelizerLowpassOf, fittedOf};
-
-// Nothing wrong, or what is.
-pub enum Checked {
-    Fine,
-    Refused(Refusal),
-}
 
 // Whether a channelizer has so many channels: a power of two from 4 to 256.
 fn takes_channels(channels: u64) -> bool
@@ -56,19 +50,19 @@ fn takes_attenuation(attenuation: f64) -> bool
 }
 
 // The band edges, in channel spacings, and the attenuation in dB: 2 a passband that isn't finite and positive; 2 a stopband that isn't above it and at most 1.5; 4 with 20, 120, attenuation.
-fn check_edges(passband: f64, stopband: f64, attenuation: f64) -> Checked
+fn check_edges(passband: f64, stopband: f64, attenuation: f64) -> Verdict
     ensures { λ r. ⌜ r ≡ edgesOf passband stopband attenuation ⌝ }
 {
     if !math_numbers::is_positive(passband) {
-        return Checked::Refused(Refusal::Plain(2));
+        return Verdict::Refused(Refusal::Plain(2));
     }
     if !takes_stopband(passband, stopband) {
-        return Checked::Refused(Refusal::Plain(2));
+        return Verdict::Refused(Refusal::Plain(2));
     }
     if !takes_attenuation(attenuation) {
-        return Checked::Refused(Refusal::Range(4, 20.0, 120.0, attenuation));
+        return Verdict::Refused(Refusal::Range(4, 20.0, 120.0, attenuation));
     }
-    Checked::Fine
+    Verdict::Done
 }
 
 // Whether an estimate is a number of taps: finite and at most 2^24.
@@ -87,7 +81,7 @@ pub fn channelizer_taps(channels: u64, passband: f64, stopband: f64, attenuation
     }
     let checked = check_edges(passband, stopband, attenuation);
     match checked {
-        Checked::Fine => {
+        Verdict::Done => {
             let width = 2.0 * (stopband - passband) / std::num::nearest_u64_to_f64(channels);
             let num = fir_length::order::taps_estimate(attenuation, width);
             if takes_estimate(num) {
@@ -96,7 +90,7 @@ pub fn channelizer_taps(channels: u64, passband: f64, stopband: f64, attenuation
                 Length::Refused(Refusal::Plain(3))
             }
         }
-        Checked::Refused(why) => Length::Refused(why),
+        Verdict::Refused(why) => Length::Refused(why),
     }
 }
 
@@ -152,7 +146,7 @@ pub fn prepare(
     }
     let checked = check_edges(passband, stopband, attenuation);
     match checked {
-        Checked::Fine => {
+        Verdict::Done => {
             let cutoff = (passband + stopband) / (2.0 * std::num::nearest_u64_to_f64(channels));
             let beta = fir_length::beta::kaiser_beta(attenuation);
             fir_lowpass::lowpass::prepare(
@@ -163,7 +157,7 @@ pub fn prepare(
                 &mut *raws,
             )
         }
-        Checked::Refused(why) => refused(why),
+        Verdict::Refused(why) => refused(why),
     }
 }
 
@@ -224,7 +218,7 @@ pub fn channelizer_prototype(
     stopband: f64,
     attenuation: f64,
     taps: &mut [f64],
-) -> Filled
+) -> Verdict
     ensures { λ r. ⌜ Fills (outcomeOf (fittedOf (channelizerLowpassOf channels branch passband stopband attenuation) (length (now (taps .entry))))) (now (taps .entry)) r (now (taps .exit)) ⌝ }
 {
     let mut none = [0.0f64; 1];

@@ -11,7 +11,8 @@ use Rattle.laws.specs.Sums.{sumTo}
 use Rattle.math_exp.specs.Exp.{expOf}
 use Rattle.verdict.specs.declared.Refusal.the-variants.{Range, Length}
 use Rattle.fir_sinc.specs.Kept.{KeepsOf}
-use Rattle.fir_lowpass.specs.Outcome.{Outcome, Made, Turned}
+use Rattle.verdict.specs.Outcome.{Outcome}
+use Rattle.verdict.specs.Outcome as Outcome
 use Rattle.fir_gaussian.specs.declared.gaussian_design.Gaussian.{Gaussian}
 use Rattle.fir_gaussian.specs.declared.gaussian_design.GaussianDesigned.{GaussianDesigned}
 use Rattle.fir_gaussian.specs.declared.gaussian_design.GaussianDesigned.the-variants.{Ready, Refused}
@@ -74,5 +75,5 @@ pub record Prepares (d r : GaussianDesigned) (rs : List Float) : Type 0 where
 
 -- ---- what comes of a ticket
 abbrev pub outcomeOf : GaussianDesigned → Outcome
-outcomeOf (Ready g) = Made (g .n) (g .sum) (tapOf g)
-outcomeOf (Refused why) = Turned why
+outcomeOf (Ready g) = Outcome.Designed (g .n) (g .sum) (tapOf g)
+outcomeOf (Refused why) = Outcome.Refused why

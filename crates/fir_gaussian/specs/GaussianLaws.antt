@@ -14,10 +14,11 @@ use Rattle.laws.specs.Tests.{both}
 use Rattle.fir_sinc.specs.Kept.{Totals}
 use Rattle.verdict.specs.declared.Refusal.{Refusal}
 use Rattle.verdict.specs.declared.Refusal.the-variants.{Range, Length}
-use Rattle.fir_gaussian.specs.Gaussian.{exponent, rawAt, btTaken, spanTaken, samplesTaken, madeOf, gaussianOf, fittedOf, tapOf, Keeps, Prepares}
+use Rattle.fir_gaussian.specs.Gaussian.{exponent, rawAt, btTaken, spanTaken, samplesTaken, madeOf, gaussianOf, fittedOf, tapOf, Keeps, Prepares, outcomeOf}
 use Rattle.fir_gaussian.specs.declared.gaussian_design.Gaussian.{Gaussian}
 use Rattle.fir_gaussian.specs.declared.gaussian_design.GaussianDesigned.{GaussianDesigned}
 use Rattle.fir_gaussian.specs.declared.gaussian_design.GaussianDesigned.the-variants.{Ready, Refused}
+use Rattle.verdict.specs.Counted.{Counted, where-equal}
 
 -- ---- the numbers that are taken
 pub span-least : (span : ℕ) → spanTaken span ≡ true → 2 ≤ span
@@ -114,3 +115,8 @@ keeps-as d e g {r} p h k = record { is = sym k; raws = λ x q. p .raws x (h ∙ 
 pub kept-is : (g : Gaussian) (rs : List Float) (i : ℕ) → g .n ≤ 16777216 → i < g .n → i < length rs → Keeps g rs → getD rs i nan ⊘ g .sum ≡ tapOf g i
 unfolding tapOf
 kept-is g rs i h b m k = ap (λ (z : Float). z ⊘ g .sum) (k i b m) ∙ sym (rw (le-ltb 16777216 (g .n) h, lt-ltb i (g .n) b))
+
+-- ---- an accepted pulse has as many taps as its buffer has elements
+pub gaussian-count : (d : GaussianDesigned) (len : ℕ) → Counted len (outcomeOf (fittedOf d len))
+gaussian-count (Ready g) len = where-equal outcomeOf len _ _ (g .n) len (λ e. e) tt
+gaussian-count (Refused why) len = tt

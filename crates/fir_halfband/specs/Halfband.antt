@@ -10,7 +10,8 @@ use lib.Ieee.{Float, binary64}
 use Rattle.laws.specs.Binary64.{_⊘_, whole, fraction}
 use Rattle.laws.specs.Sums.{sumTo}
 use Rattle.verdict.specs.declared.Refusal.the-variants.{Plain}
-use Rattle.fir_lowpass.specs.Outcome.{Outcome, Made, Turned}
+use Rattle.verdict.specs.Outcome.{Outcome}
+use Rattle.verdict.specs.Outcome as Outcome
 use Rattle.fir_sinc.specs.Windows.{normOf}
 use Rattle.fir_lowpass.specs.Lowpass as Lowpass
 use Rattle.fir_lowpass.specs.Kept.{Keeps}
@@ -82,8 +83,8 @@ pub record Prepares (d : HalfbandDesigned) (r : HalfbandPrepared) (rs : List Flo
 
 -- what comes of a ticket
 abbrev pub outcomeOf : HalfbandDesigned → Outcome
-outcomeOf (Ready d) = Made (d .n) (d .sum) (tapOf d)
-outcomeOf (Refused why) = Turned why
+outcomeOf (Ready d) = Outcome.Designed (d .n) (d .sum) (tapOf d)
+outcomeOf (Refused why) = Outcome.Refused why
 
 -- ---- a buffer at once
 -- the low-pass's taps cleared, then mirrored, the left half to the right
@@ -97,10 +98,10 @@ abbrev pub mirroredSum : Lowpass → Float
 mirroredSum l = sumTo binary64 (mirrored l) (l .n)
 
 abbrev pub tapsIn : Designed → Outcome
-tapsIn (Designed.Ready l) = cond (Lowpass.usable (mirroredSum l)) (Made (l .n) (mirroredSum l) (λ k. mirrored l k ⊘ mirroredSum l)) (Turned (Plain 10))
-tapsIn (Designed.Refused why) = Turned why
+tapsIn (Designed.Ready l) = cond (Lowpass.usable (mirroredSum l)) (Outcome.Designed (l .n) (mirroredSum l) (λ k. mirrored l k ⊘ mirroredSum l)) (Outcome.Refused (Plain 10))
+tapsIn (Designed.Refused why) = Outcome.Refused why
 
 -- what comes of a ticket with a buffer of n elements
 unfoldable pub halfbandTapsOf : Float → ℕ → Outcome
 unfolding lengthTaken
-halfbandTapsOf beta n = cond (lengthTaken n) (tapsIn (quarterOf beta n)) (Turned (Plain 6))
+halfbandTapsOf beta n = cond (lengthTaken n) (tapsIn (quarterOf beta n)) (Outcome.Refused (Plain 6))

@@ -15,10 +15,13 @@ use Rattle.fir_lowpass.specs.Kept.{Keeps}
 use Rattle.fir_lowpass.specs.declared.lowpass.Lowpass.{Lowpass}
 use Rattle.fir_lowpass.specs.declared.lowpass.Designed.{Designed}
 use Rattle.fir_lowpass.specs.declared.lowpass.Designed.the-variants as Designed
-use Rattle.fir_halfband.specs.Halfband.{lengthTaken, quarterOf, unscaled, divisorOf, halfbandIn, halfbandOf, tapOf, Prepares}
+use Rattle.fir_halfband.specs.Halfband.{lengthTaken, quarterOf, unscaled, divisorOf, halfbandIn, halfbandOf, tapOf, Prepares, outcomeOf}
 use Rattle.fir_halfband.specs.declared.HalfbandDesign.{HalfbandDesign}
+use Rattle.fir_halfband.specs.declared.HalfbandDesigned.{HalfbandDesigned}
 use Rattle.fir_halfband.specs.declared.HalfbandDesigned.the-variants.{Ready, Refused}
 use Rattle.fir_halfband.specs.declared.HalfbandPrepared.{HalfbandPrepared}
+use Rattle.laws.specs.Cases.{either-way}
+use Rattle.verdict.specs.Counted.{Counted}
 
 -- a tap of a design, below its length
 pub tap-is : (d : HalfbandDesign) (k : ℕ) → k < d .n → tapOf d k ≡ unscaled (d .lp) (d .n) k ⊘ d .sum
@@ -91,3 +94,12 @@ accepted beta n d e = go (lengthTaken n) (quarterOf beta n) refl refl e
     go true (Designed.Ready l) a b e = tested l (usable (divisorOf l n)) a b refl e
     go true (Designed.Refused why) a b e = absurd (never why d e)
     go false q a b e = absurd (never (Plain 6) d e)
+
+-- ---- an accepted design has as many taps as it was asked for
+in-halfband : (n : ℕ) (d : Designed) → Counted n (outcomeOf (halfbandIn n d))
+in-halfband n (Designed.Ready l) = either-way (λ (h : HalfbandDesigned). Counted n (outcomeOf h)) (usable (divisorOf l n)) _ _ refl tt
+in-halfband n (Designed.Refused why) = tt
+
+pub halfband-count : (beta : Float) (n : ℕ) → Counted n (outcomeOf (halfbandOf beta n))
+unfolding halfbandOf
+halfband-count beta n = either-way (λ (h : HalfbandDesigned). Counted n (outcomeOf h)) (lengthTaken n) _ _ (in-halfband n (quarterOf beta n)) tt

@@ -13,8 +13,8 @@ use Rattle.math_round.specs.Whole.{ceilOf, absOf}
 use Rattle.verdict.specs.declared.Refusal.the-variants.{Plain, Range}
 use Rattle.fir_length.specs.declared.order.Order.{Order}
 use Rattle.fir_length.specs.declared.order.Order.the-variants as Order
-use Rattle.fir_length.specs.declared.order.Length.{Length}
-use Rattle.fir_length.specs.declared.order.Length.the-variants as Length
+use Rattle.verdict.specs.declared.Length.{Length}
+use Rattle.verdict.specs.declared.Length.the-variants as Length
 
 -- ---- beta
 unfoldable pub betaOf : Float → Float

@@ -1,5 +1,6 @@
 // The number of taps of a Kaiser design.
 use super::beta::kaiser_beta;
+use verdict::Length;
 use verdict::Refusal;
 ghost use mathlib.Core.Path.{_≡_};
 ghost use Prim.Native.Nat.{_+_, _%_};
@@ -12,12 +13,6 @@ const PI: f64 = 3.141592653589793;
 // How many taps, and beta; or why not.
 pub enum Order {
     Taps(u64, f64),
-    Refused(Refusal),
-}
-
-// How many taps, or why not.
-pub enum Length {
-    Taps(u64),
     Refused(Refusal),
 }
 

@@ -1,5 +1,3 @@
-pub mod Outcome
-pub mod OutcomeLaws
 pub mod Lowpass
 pub mod Kept
 pub mod KeptLaws

@@ -11,7 +11,8 @@ use Rattle.laws.specs.Filled.{tabulate}
 use Rattle.laws.specs.Sums.{sumTo}
 use Rattle.math_numbers.specs.Numbers.{positive}
 use Rattle.verdict.specs.declared.Refusal.the-variants.{Plain, Range}
-use Rattle.fir_lowpass.specs.Outcome.{Outcome, Made, Turned}
+use Rattle.verdict.specs.Outcome.{Outcome}
+use Rattle.verdict.specs.Outcome as Outcome
 use Rattle.fir_sinc.specs.Windows.{normOf}
 use Rattle.fir_sinc.specs.Taps.{rawAt}
 use Rattle.fir_sinc.specs.declared.window.Window.{Window}
@@ -74,5 +75,5 @@ tapsOf l i0 n = tabulate n (tapWith l i0)
 
 -- ---- what comes of a ticket
 abbrev pub outcomeOf : Designed → Outcome
-outcomeOf (Ready l) = Made (l .n) (l .sum) (tapOf l)
-outcomeOf (Refused why) = Turned why
+outcomeOf (Ready l) = Outcome.Designed (l .n) (l .sum) (tapOf l)
+outcomeOf (Refused why) = Outcome.Refused why

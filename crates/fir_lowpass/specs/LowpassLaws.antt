@@ -14,8 +14,8 @@ use Rattle.laws.specs.Tests.{both}
 use Rattle.math_numbers.specs.Numbers.{positive}
 use Rattle.verdict.specs.declared.Refusal.{Refusal}
 use Rattle.verdict.specs.declared.Refusal.the-variants.{Plain, Range}
-use Rattle.fir_lowpass.specs.Outcome.{Fills}
-use Rattle.fir_lowpass.specs.OutcomeLaws as Outcome
+use Rattle.verdict.specs.Outcome.{Fills}
+use Rattle.verdict.specs.OutcomeLaws as Outcome
 use Rattle.fir_sinc.specs.Windows.{normOf}
 use Rattle.fir_sinc.specs.Taps.{rawAt}
 use Rattle.fir_sinc.specs.Kept.{KeepsOf}
@@ -26,8 +26,10 @@ use Rattle.fir_lowpass.specs.declared.lowpass.Lowpass.{Lowpass}
 use Rattle.fir_lowpass.specs.declared.lowpass.Designed.{Designed}
 use Rattle.fir_lowpass.specs.declared.lowpass.Designed.the-variants.{Ready, Refused}
 use Rattle.fir_lowpass.specs.declared.lowpass.Prepared.{Prepared}
-use Rattle.fir_lowpass.specs.declared.lowpass.Filled.{Filled}
-use Rattle.fir_lowpass.specs.declared.lowpass.Filled.the-variants as Filled
+use Rattle.verdict.specs.declared.Verdict.{Verdict}
+use Rattle.verdict.specs.declared.Verdict.the-variants as Verdict
+use Rattle.laws.specs.Cases.{either-way}
+use Rattle.verdict.specs.Counted.{Counted}
 
 -- a count that is taken is at most 2^24
 pub count-most : (n : ℕ) → countTaken n ≡ true → n ≤ 16777216
@@ -114,15 +116,15 @@ ready-is cutoff rate w n l e = go (positive rate) (inside (cutoff ⊘ rate)) (co
 
 -- ---- a buffer
 module _ (g : Designed) (d : List Float) where
-  pub fills : (l : Lowpass) (i0 : Float) (after : List Float) → g ≡ Ready l → i0 ≡ normOf (l .window) → after ≡ tapsOf l i0 (length d) → Fills (outcomeOf g) d Filled.Done after
+  pub fills : (l : Lowpass) (i0 : Float) (after : List Float) → g ≡ Ready l → i0 ≡ normOf (l .window) → after ≡ tapsOf l i0 (length d) → Fills (outcomeOf g) d Verdict.Done after
   unfolding tapsOf tapOf
   fills l i0 after h k e = Outcome.fills (ap outcomeOf h) (e ∙ ap (λ (z : Float). tabulate (length d) (tapWith l z)) k)
 
-  pub leaves : (why : Refusal) → g ≡ Refused why → Fills (outcomeOf g) d (Filled.Refused why) d
+  pub leaves : (why : Refusal) → g ≡ Refused why → Fills (outcomeOf g) d (Verdict.Refused why) d
   leaves why h = Outcome.leaves why (ap outcomeOf h)
 
 -- ---- for an equal design
-pub fills-as : {d e : Designed} {b a : List Float} {r : Filled} → d ≡ e → Fills (outcomeOf d) b r a → Fills (outcomeOf e) b r a
+pub fills-as : {d e : Designed} {b a : List Float} {r : Verdict} → d ≡ e → Fills (outcomeOf d) b r a → Fills (outcomeOf e) b r a
 fills-as p f = Outcome.fills-as (ap outcomeOf p) f
 
 pub prepares-as : {d e : Designed} {r : Prepared} {rs : List Float} → d ≡ e → Prepares d r rs → Prepares e r rs
@@ -130,3 +132,11 @@ prepares-as {d} {e} {r} {rs} p f = subst (λ (z : Designed). Prepares z r rs) p 
 
 pub prepares-refusal : (d : Designed) (why : Refusal) (i0 : Float) (rs : List Float) → d ≡ Refused why → Prepares d (record { designed = Refused why; i0 = i0 }) rs
 prepares-refusal d why i0 rs e = record { is = sym e; kept = λ l g. absurd (never why l g); raws = λ l g. absurd (never why l g) }
+
+-- ---- an accepted design has as many taps as it was asked for
+pub lowpass-count : (cutoff rate : Float) (w : Window) (n : ℕ) → Counted n (outcomeOf (lowpassOf cutoff rate w n))
+unfolding lowpassOf
+lowpass-count cutoff rate w n =
+    let fc = cutoff ⊘ rate in
+    let counted : Designed → Type 0 = λ d. Counted n (outcomeOf d) in
+    either-way counted (positive rate) _ _ (either-way counted (inside fc) _ _ (either-way counted (countTaken n) _ _ (either-way counted (betaTaken w) _ _ (either-way counted (usable (divisorOf fc w n)) _ _ refl tt) tt) tt) tt) tt

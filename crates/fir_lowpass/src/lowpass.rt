@@ -4,10 +4,11 @@ use fir_sinc::tap::raw_tap;
 use fir_sinc::window::Window;
 use fir_sinc::window::norm;
 use verdict::Refusal;
+use verdict::Verdict;
 ghost use mathlib.Core.Path.{_≡_};
 ghost use lib.ListN.{length};
 ghost use Rattle.fir_lowpass.specs.Lowpass.{inside, countTaken, betaTaken, usable, lowpassOf, tapWith, tapOf, tapsOf, outcomeOf};
-ghost use Rattle.fir_lowpass.specs.Outcome.{Fills};
+ghost use Rattle.verdict.specs.Outcome.{Fills};
 ghost use Rattle.fir_lowpass.specs.Kept.{Keeps, Normed, Prepares};
 
 // The largest number of taps that a design takes.
@@ -31,12 +32,6 @@ pub enum Designed {
 pub struct Prepared {
     pub designed: Designed,
     pub i0: f64,
-}
-
-// A filled buffer, or why it is as it came.
-pub enum Filled {
-    Done,
-    Refused(Refusal),
 }
 
 // Whether a cutoff lies between 0 and half the rate.
@@ -185,21 +180,21 @@ fn fill(lp: Lowpass, i0: f64, taps: &mut [f64])
 }
 
 // Fills the buffer by a design that comes with the series at its beta, or leaves it.
-pub fn finish(p: Prepared, taps: &mut [f64]) -> Filled
+pub fn finish(p: Prepared, taps: &mut [f64]) -> Verdict
     ensures { λ r. ⌜ (Normed p → Fills (outcomeOf (p .designed)) (now (taps .entry)) r (now (taps .exit))) ⌝ }
 {
     let designed = p.designed;
     match designed {
         Designed::Ready(lp) => {
             fill(lp, p.i0, &mut *taps);
-            Filled::Done
+            Verdict::Done
         }
-        Designed::Refused(why) => Filled::Refused(why),
+        Designed::Refused(why) => Verdict::Refused(why),
     }
 }
 
 // The low-pass of as many taps as the buffer has elements; refused as `prepare`, with the buffer as it came. Example: Hann, cutoff 0.25 at rate 1: one tap is 1, two are refused with 10.
-pub fn firwin_lowpass(cutoff: f64, rate: f64, window: Window, taps: &mut [f64]) -> Filled
+pub fn firwin_lowpass(cutoff: f64, rate: f64, window: Window, taps: &mut [f64]) -> Verdict
     ensures { λ r. ⌜ Fills (outcomeOf (lowpassOf cutoff rate window (length (now (taps .entry))))) (now (taps .entry)) r (now (taps .exit)) ⌝ }
 {
     let mut none = [0.0f64; 1];

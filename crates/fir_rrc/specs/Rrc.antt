@@ -11,10 +11,11 @@ use Rattle.laws.specs.Sums.{sumTo}
 use Rattle.math_round.specs.Whole.{absOf}
 use Rattle.math_sqrt.specs.Sqrt.{sqrtOf}
 use Rattle.math_trig.specs.Trig.{sinOf, cosOf}
-use Rattle.fir_length.specs.declared.order.Length.{Length}
-use Rattle.fir_length.specs.declared.order.Length.the-variants as Length
+use Rattle.verdict.specs.declared.Length.{Length}
+use Rattle.verdict.specs.declared.Length.the-variants as Length
 use Rattle.verdict.specs.declared.Refusal.the-variants as Refusal
-use Rattle.fir_lowpass.specs.Outcome.{Outcome, Made, Turned}
+use Rattle.verdict.specs.Outcome.{Outcome}
+use Rattle.verdict.specs.Outcome as Outcome
 use Rattle.fir_rrc.specs.declared.design.Rrc.{Rrc}
 use Rattle.fir_rrc.specs.declared.design.RrcDesigned.{RrcDesigned}
 use Rattle.fir_rrc.specs.declared.design.RrcDesigned.the-variants.{Ready, Refused}
@@ -85,5 +86,5 @@ fittedOf (Refused why) len = Refused why
 
 -- what comes of a ticket; its factor stands in the divisor's place
 abbrev pub outcomeOf : RrcDesigned → Outcome
-outcomeOf (Ready d) = Made (d .n) (d .norm) (tapOf d)
-outcomeOf (Refused why) = Turned why
+outcomeOf (Ready d) = Outcome.Designed (d .n) (d .norm) (tapOf d)
+outcomeOf (Refused why) = Outcome.Refused why

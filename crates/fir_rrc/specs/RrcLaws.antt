@@ -13,9 +13,11 @@ use Rattle.laws.specs.Tests.{both}
 use Rattle.math_sqrt.specs.Sqrt.{sqrtOf}
 use Rattle.verdict.specs.declared.Refusal.{Refusal}
 use Rattle.verdict.specs.declared.Refusal.the-variants.{Range}
-use Rattle.fir_length.specs.declared.order.Length.the-variants as Length
-use Rattle.fir_rrc.specs.Rrc.{sampled, spanned, rrcLenOf, unscaledAt, rolloffTaken, normOf, rrcIn, rrcOf}
+use Rattle.verdict.specs.declared.Length.the-variants as Length
+use Rattle.fir_rrc.specs.Rrc.{sampled, spanned, rrcLenOf, unscaledAt, rolloffTaken, normOf, rrcIn, rrcOf, fittedOf, outcomeOf}
 use Rattle.fir_rrc.specs.declared.design.RrcDesigned.the-variants.{Ready, Refused}
+use Rattle.verdict.specs.Counted.{Counted, where-equal}
+use Rattle.fir_rrc.specs.declared.design.RrcDesigned.{RrcDesigned}
 
 -- ---- the numbers that are taken
 pub samples-most : (sps : ℕ) → sampled sps ≡ true → sps ≤ 1024
@@ -82,3 +84,8 @@ module _ (b : Float) (sps span : ℕ) where
 pub ready : (b : Float) (sps n : ℕ) {e s : Float} → e ≡ sumTo binary64 (λ k. unscaledAt b sps n k ⊗ unscaledAt b sps n k) n → s ≡ sqrtOf e → Ready (record { rolloff = b; sps = sps; n = n; norm = whole 1 ⊘ s }) ≡ rrcIn b sps (Length.Taps n)
 unfolding normOf
 ready b sps n h k = ap (λ (z : Float). Ready (record { rolloff = b; sps = sps; n = n; norm = whole 1 ⊘ z })) (k ∙ ap sqrtOf h)
+
+-- ---- an accepted pulse has as many taps as its buffer has elements
+pub rrc-count : (d : RrcDesigned) (len : ℕ) → Counted len (outcomeOf (fittedOf d len))
+rrc-count (Ready r) len = where-equal outcomeOf len _ _ (r .n) len (λ e. e) tt
+rrc-count (Refused why) len = tt

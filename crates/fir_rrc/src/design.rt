@@ -1,5 +1,5 @@
 // The design of the root-raised-cosine pulse: judged first, then its taps one at a time.
-use fir_length::order::Length;
+use verdict::Length;
 use verdict::Refusal;
 ghost use mathlib.Core.Path.{_≡_};
 ghost use Prim.Native.Nat.{_^_, _<_, _≤_};
@@ -75,7 +75,8 @@ fn corner_of(b: f64) -> f64
     ensures { λ r. ⌜ r ≡ corner b ⌝ }
 {
     let a = PI / (4.0 * b);
-    (b / SQRT_2) * ((1.0 + 2.0 / PI) * math_trig::sin::sin(a) + (1.0 - 2.0 / PI) * math_trig::cos::cos(a))
+    (b / SQRT_2)
+        * ((1.0 + 2.0 / PI) * math_trig::sin::sin(a) + (1.0 - 2.0 / PI) * math_trig::cos::cos(a))
 }
 
 // The pulse elsewhere, x being 4 b t and den 1 − x².

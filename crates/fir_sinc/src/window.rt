@@ -122,7 +122,8 @@ fn value_of(w: Window, i0: f64, x: f64) -> f64
     match w {
         Window::Hann => 0.5 - 0.5 * math_trig::cos::cos(x),
         Window::Hamming => 0.54 - 0.46 * math_trig::cos::cos(x),
-        Window::Blackman => 0.42 - 0.5 * math_trig::cos::cos(x) + 0.08 * math_trig::cos::cos(2.0 * x),
+        Window::Blackman => 0.42 - 0.5 * math_trig::cos::cos(x)
+            + 0.08 * math_trig::cos::cos(2.0 * x),
         Window::Kaiser(_) => kaiser_value(i0, x),
     }
 }

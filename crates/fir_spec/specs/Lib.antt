@@ -1,1 +1,2 @@
 pub mod Spec
+pub mod SpecLaws

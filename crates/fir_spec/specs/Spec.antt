@@ -10,8 +10,8 @@ use Rattle.verdict.specs.declared.Refusal.the-variants as Refusal
 use Rattle.fir_length.specs.Kaiser.{orderOf}
 use Rattle.fir_length.specs.declared.order.Order.{Order}
 use Rattle.fir_length.specs.declared.order.Order.the-variants as Order
-use Rattle.fir_length.specs.declared.order.Length.{Length}
-use Rattle.fir_length.specs.declared.order.Length.the-variants as Length
+use Rattle.verdict.specs.declared.Length.{Length}
+use Rattle.verdict.specs.declared.Length.the-variants as Length
 use Rattle.fir_lowpass.specs.Lowpass.{lowpassOf}
 use Rattle.fir_sinc.specs.declared.window.Window.the-variants.{Kaiser}
 use Rattle.fir_lowpass.specs.declared.lowpass.Designed.{Designed}

@@ -1,18 +1,18 @@
 // A low-pass by what it has to do: Kaiser's formulas find how many taps and which beta.
+use fir_length::order::Order;
+use fir_length::order::kaiserord;
 use fir_lowpass::lowpass::Designed;
-use fir_lowpass::lowpass::Filled;
 use fir_lowpass::lowpass::Lowpass;
 use fir_lowpass::lowpass::Prepared;
 use fir_lowpass::lowpass::finish;
 use fir_lowpass::lowpass::prepare;
-use fir_length::order::Length;
-use fir_length::order::Order;
-use fir_length::order::kaiserord;
 use fir_sinc::window::Window;
+use verdict::Length;
 use verdict::Refusal;
+use verdict::Verdict;
 ghost use mathlib.Core.Path.{_≡_};
 ghost use lib.ListN.{length};
-ghost use Rattle.fir_lowpass.specs.Outcome.{Fills};
+ghost use Rattle.verdict.specs.Outcome.{Fills};
 ghost use Rattle.fir_lowpass.specs.Lowpass.{outcomeOf};
 ghost use Rattle.fir_lowpass.specs.Kept.{Prepares};
 ghost use Rattle.fir_spec.specs.Spec.{cutoffTaken, cappedOf, specOrderOf, numTapsOf, specLowpassOf, specDesignOf};
@@ -114,7 +114,7 @@ impl DesignSpec {
     }
 
     // Fills the buffer, whose length must be that of `num_taps`; refused as `spec_prepare`, with the buffer as it came.
-    pub fn design(self, rate: f64, cap: u64, taps: &mut [f64]) -> Filled
+    pub fn design(self, rate: f64, cap: u64, taps: &mut [f64]) -> Verdict
         ensures { λ r. ⌜ Fills (outcomeOf (specDesignOf self rate cap (length (now (taps .entry))))) (now (taps .entry)) r (now (taps .exit)) ⌝ }
     {
         let mut none = [0.0f64; 1];

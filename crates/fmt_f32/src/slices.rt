@@ -1,7 +1,7 @@
 // Buffers of f64 as f32.
 use super::narrow::narrow;
-use fmt_q15::q15::Converted;
 use verdict::Refusal;
+use verdict::Verdict;
 ghost use mathlib.Core.Path.{_≡_};
 ghost use lib.ListN.{length};
 ghost use Rattle.fmt_f32.specs.Single.{singlesOf, Narrows, NarrowsSections};
@@ -17,23 +17,23 @@ fn narrow_all(src: &[f64], dst: &mut [f32])
 }
 
 // Converts the source element by element, all of it. Refused: 8 where the lengths differ, and then nothing is written.
-pub fn to_f32(src: &[f64], dst: &mut [f32]) -> Converted
+pub fn to_f32(src: &[f64], dst: &mut [f32]) -> Verdict
     ensures { λ r. ⌜ Narrows (now (src .entry)) (now (dst .entry)) r (now (dst .exit)) ⌝ }
 {
     if src.len() != dst.len() {
-        return Converted::Refused(Refusal::Length(src.len() as u64, dst.len() as u64));
+        return Verdict::Refused(Refusal::Length(src.len() as u64, dst.len() as u64));
     }
     narrow_all(src, &mut *dst);
-    Converted::Done
+    Verdict::Done
 }
 
 // Converts sections, five numbers each. Refused first: 8 a source that isn't whole sections, with the length to the last whole one and the length; then as `to_f32`.
-pub fn to_f32_sos(src: &[f64], dst: &mut [f32]) -> Converted
+pub fn to_f32_sos(src: &[f64], dst: &mut [f32]) -> Verdict
     ensures { λ r. ⌜ NarrowsSections (now (src .entry)) (now (dst .entry)) r (now (dst .exit)) ⌝ }
 {
     let m = src.len() as u64;
     if m % 5 != 0 {
-        return Converted::Refused(Refusal::Length(m - m % 5, m));
+        return Verdict::Refused(Refusal::Length(m - m % 5, m));
     }
     to_f32(src, &mut *dst)
 }

@@ -18,8 +18,8 @@ use Rattle.verdict.specs.declared.Refusal.the-variants.{Length, Element}
 use Rattle.fmt_q15.specs.Q15.{in16}
 use Rattle.fmt_q15.specs.declared.q15.Coded.{Coded}
 use Rattle.fmt_q15.specs.declared.q15.Coded.the-variants as Coded
-use Rattle.fmt_q15.specs.declared.q15.Converted.{Converted}
-use Rattle.fmt_q15.specs.declared.q15.Converted.the-variants as Converted
+use Rattle.verdict.specs.declared.Verdict.{Verdict}
+use Rattle.verdict.specs.declared.Verdict.the-variants as Verdict
 
 -- ---- one number
 unfoldable pub moved : Float → Float
@@ -46,11 +46,11 @@ abbrev pub itemOf : List Float → ℕ → ℤ
 itemOf s i = q14Of (getD s i nan)
 
 -- all are taken, or the first that isn't is named
-unfoldable pub toQ14Of : List Float → Converted
+unfoldable pub toQ14Of : List Float → Verdict
 unfolding takes
-toQ14Of s = let k = firstBad takes s in cond (eqb k (length s)) Converted.Done (Converted.Refused (outside k (getD s k nan)))
+toQ14Of s = let k = firstBad takes s in cond (eqb k (length s)) Verdict.Done (Verdict.Refused (outside k (getD s k nan)))
 
 -- what the answer and the destination are afterwards; a source that isn't whole sections is refused first
-pub record Converts (s : List Float) (before : List ℤ) (r : Converted) (after : List ℤ) : Type 0 where
-  pub answer : r ≡ cond (eqb (length s % 5) 0) (cond (eqb (length s) (length before)) (toQ14Of s) (Converted.Refused (Length (length s) (length before)))) (Converted.Refused (Length (length s - length s % 5) (length s)))
+pub record Converts (s : List Float) (before : List ℤ) (r : Verdict) (after : List ℤ) : Type 0 where
+  pub answer : r ≡ cond (eqb (length s % 5) 0) (cond (eqb (length s) (length before)) (toQ14Of s) (Verdict.Refused (Length (length s) (length before)))) (Verdict.Refused (Length (length s - length s % 5) (length s)))
   pub buffer : after ≡ cond (eqb (length s % 5) 0) (cond (eqb (length s) (length before)) (filled (firstBad takes s) (itemOf s) before) before) before

@@ -1,7 +1,7 @@
 // Q2.14: a coefficient as a whole number of 1/16384, in 16 bits.
 use fmt_q15::q15::Coded;
-use fmt_q15::q15::Converted;
 use verdict::Refusal;
+use verdict::Verdict;
 ghost use mathlib.Core.Path.{_≡_};
 ghost use Rattle.math_round.specs.Whole.{floorOf};
 ghost use Rattle.fmt_q14.specs.Q14.{moved, q14TapOf, Converts};
@@ -41,16 +41,16 @@ fn number(i: u64, x: f64, v: f64) -> Coded
 }
 
 // Converts sections, five numbers each, one after the other. Refused, in this order: 8 a source that isn't whole sections, with the length to the last whole one and the length; 8 where the lengths differ; and then nothing is written; 11 at the first number that isn't taken, counted from the first of all, and then those before it are converted and the rest is as it came.
-pub fn to_q14(src: &[f64], dst: &mut [i16]) -> Converted
+pub fn to_q14(src: &[f64], dst: &mut [i16]) -> Verdict
     ensures { λ r. ⌜ Converts (now (src .entry)) (now (dst .entry)) r (now (dst .exit)) ⌝ }
 {
     let n = src.len();
     if n % 5 != 0 {
         let m = n as u64;
-        return Converted::Refused(Refusal::Length(m - m % 5, m));
+        return Verdict::Refused(Refusal::Length(m - m % 5, m));
     }
     if n != dst.len() {
-        return Converted::Refused(Refusal::Length(n as u64, dst.len() as u64));
+        return Verdict::Refused(Refusal::Length(n as u64, dst.len() as u64));
     }
     for i in 0..n {
         let coded = q14_from_f64(i as u64, src[i]);
@@ -59,9 +59,9 @@ pub fn to_q14(src: &[f64], dst: &mut [i16]) -> Converted
                 dst[i] = q;
             }
             Coded::Refused(why) => {
-                return Converted::Refused(why);
+                return Verdict::Refused(why);
             }
         }
     }
-    Converted::Done
+    Verdict::Done
 }

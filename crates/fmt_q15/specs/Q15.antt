@@ -17,8 +17,8 @@ use Rattle.verdict.specs.declared.Refusal.the-variants.{Length, Element}
 use Rattle.math_round.specs.Whole.{absOf}
 use Rattle.fmt_q15.specs.declared.q15.Coded.{Coded}
 use Rattle.fmt_q15.specs.declared.q15.Coded.the-variants as Coded
-use Rattle.fmt_q15.specs.declared.q15.Converted.{Converted}
-use Rattle.fmt_q15.specs.declared.q15.Converted.the-variants as Converted
+use Rattle.verdict.specs.declared.Verdict.{Verdict}
+use Rattle.verdict.specs.declared.Verdict.the-variants as Verdict
 
 -- ---- one value
 -- 32768 t + 0.5, whose floor is q
@@ -67,11 +67,11 @@ abbrev pub itemOf : List Float → ℕ → ℤ
 itemOf s i = q15Of (getD s i nan)
 
 -- all are taken, or the first that isn't is named
-unfoldable pub toQ15Of : List Float → Converted
+unfoldable pub toQ15Of : List Float → Verdict
 unfolding takes
-toQ15Of s = let k = firstBad takes s in cond (eqb k (length s)) Converted.Done (Converted.Refused (outside k (getD s k nan)))
+toQ15Of s = let k = firstBad takes s in cond (eqb k (length s)) Verdict.Done (Verdict.Refused (outside k (getD s k nan)))
 
 -- what the answer and the destination are afterwards: the numbers up to the first element that isn't taken, the rest as it came
-pub record Converts (s : List Float) (before : List ℤ) (r : Converted) (after : List ℤ) : Type 0 where
-  pub answer : r ≡ cond (eqb (length s) (length before)) (toQ15Of s) (Converted.Refused (Length (length s) (length before)))
+pub record Converts (s : List Float) (before : List ℤ) (r : Verdict) (after : List ℤ) : Type 0 where
+  pub answer : r ≡ cond (eqb (length s) (length before)) (toQ15Of s) (Verdict.Refused (Length (length s) (length before)))
   pub buffer : after ≡ cond (eqb (length s) (length before)) (filled (firstBad takes s) (itemOf s) before) before

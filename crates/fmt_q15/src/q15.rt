@@ -1,5 +1,6 @@
 // Q15: a tap as a whole number of 1/32768, in 16 bits.
 use verdict::Refusal;
+use verdict::Verdict;
 ghost use mathlib.Core.Path.{_≡_};
 ghost use Rattle.fmt_q15.specs.Q15.{takes, q15Of, q15TapOf, Converts};
 
@@ -9,12 +10,6 @@ const LIMIT: f64 = (1.0 - 1.0 / 32768.0) * 1.01;
 // A Q15 number, or why there is none.
 pub enum Coded {
     Number(i16),
-    Refused(Refusal),
-}
-
-// A buffer that was converted, or why it stopped.
-pub enum Converted {
-    Done,
     Refused(Refusal),
 }
 
@@ -57,12 +52,12 @@ pub fn q15_tap(i: u64, t: f64) -> Coded
 }
 
 // Converts the source element by element. Refused: 8 where the lengths differ, and then nothing is written; 11 at the first element that isn't taken, and then those before it are converted and the rest is as it came. Example: 1, −1 gives 32767, −32768.
-pub fn to_q15(src: &[f64], dst: &mut [i16]) -> Converted
+pub fn to_q15(src: &[f64], dst: &mut [i16]) -> Verdict
     ensures { λ r. ⌜ Converts (now (src .entry)) (now (dst .entry)) r (now (dst .exit)) ⌝ }
 {
     let n = src.len();
     if n != dst.len() {
-        return Converted::Refused(Refusal::Length(n as u64, dst.len() as u64));
+        return Verdict::Refused(Refusal::Length(n as u64, dst.len() as u64));
     }
     for i in 0..n {
         let coded = q15_tap(i as u64, src[i]);
@@ -71,9 +66,9 @@ pub fn to_q15(src: &[f64], dst: &mut [i16]) -> Converted
                 dst[i] = q;
             }
             Coded::Refused(why) => {
-                return Converted::Refused(why);
+                return Verdict::Refused(why);
             }
         }
     }
-    Converted::Done
+    Verdict::Done
 }

@@ -10,7 +10,7 @@ use Rattle.math_trig.specs.Trig.{sinOf, cosOf}
 use Rattle.verdict.specs.declared.Refusal.the-variants.{Range}
 use Rattle.iir_biquad.specs.declared.biquad.Response.{Response}
 use Rattle.iir_biquad.specs.declared.biquad.Response.the-variants.{Lowpass, Highpass, Bandpass, Notch}
-use Rattle.iir_biquad.specs.declared.biquad.Verdict.the-variants.{Fine, Refused}
+use Rattle.verdict.specs.declared.Verdict.the-variants.{Done, Refused}
 use Rattle.iir_biquad.specs.declared.biquad.Biquad.{Biquad}
 
 -- ---- the judgement
@@ -49,6 +49,6 @@ biquadOf r centre q rate =
     let w0 = whole 2 ⊗ pi ⊗ centre ⊘ rate in
     cond (centreTaken centre rate)
     (cond (qualityTaken q)
-    (record { coefs = sectionOf r (cosOf w0) (sinOf w0 ⊘ (whole 2 ⊗ q)); verdict = Fine })
+    (record { coefs = sectionOf r (cosOf w0) (sinOf w0 ⊘ (whole 2 ⊗ q)); verdict = Done })
     (record { coefs = zeros; verdict = Refused (Range 5 (whole 0) (inf false) q) }))
     (record { coefs = zeros; verdict = Refused (Range 2 (whole 0) (rate ⊘ whole 2) centre) })

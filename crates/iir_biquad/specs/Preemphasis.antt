@@ -7,7 +7,7 @@ use lib.Ieee.{Float, inf, lt, le}
 use lib.Ieee.Scale.{finite}
 use Rattle.laws.specs.Binary64.{_⊕_, _⊖_, _⊗_, _⊘_, whole, fraction, pi}
 use Rattle.verdict.specs.declared.Refusal.the-variants.{Range}
-use Rattle.iir_biquad.specs.declared.biquad.Verdict.the-variants.{Fine, Refused}
+use Rattle.verdict.specs.declared.Verdict.the-variants.{Done, Refused}
 use Rattle.iir_biquad.specs.declared.preemphasis.Preemphasis.{Preemphasis}
 
 unfoldable pub constantTaken : Float → Bool
@@ -30,6 +30,6 @@ preemphasisOf tau rate =
     let den = whole 1 ⊕ k ⊗ pole in
     cond (constantTaken tau)
     (cond (rateTaken rate)
-    (record { coefs = (whole 1 ⊕ k ⊗ tau) ⊘ den ∷ (whole 1 ⊖ k ⊗ tau) ⊘ den ∷ (whole 1 ⊖ k ⊗ pole) ⊘ den ∷ []; verdict = Fine })
+    (record { coefs = (whole 1 ⊕ k ⊗ tau) ⊘ den ∷ (whole 1 ⊖ k ⊗ tau) ⊘ den ∷ (whole 1 ⊖ k ⊗ pole) ⊘ den ∷ []; verdict = Done })
     (record { coefs = zeros; verdict = Refused (Range 1 (whole 40000) (inf false) rate) }))
     (record { coefs = zeros; verdict = Refused (Range 5 (whole 0) (fraction 1 1000) tau) })

@@ -1,5 +1,6 @@
 // One second-order section of the RBJ Audio EQ Cookbook.
 use verdict::Refusal;
+use verdict::Verdict;
 ghost use mathlib.Core.Path.{_≡_};
 ghost use Rattle.iir_biquad.specs.Biquad.{centreTaken, qualityTaken, sectionOf, biquadOf};
 
@@ -11,12 +12,6 @@ pub enum Response {
     Highpass,
     Bandpass,
     Notch,
-}
-
-// Nothing wrong, or what is.
-pub enum Verdict {
-    Fine,
-    Refused(Refusal),
 }
 
 // b0, b1, b2, a1, a2 with a0 = 1; zeros where refused.
@@ -88,6 +83,6 @@ pub fn biquad_coefs(response: Response, centre: f64, q: f64, rate: f64) -> Biqua
     let alpha = math_trig::sin::sin(w0) / (2.0 * q);
     Biquad {
         coefs: section(response, c, alpha),
-        verdict: Verdict::Fine,
+        verdict: Verdict::Done,
     }
 }

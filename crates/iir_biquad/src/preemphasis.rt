@@ -1,6 +1,6 @@
 // First-order pre-emphasis.
-use super::biquad::Verdict;
 use verdict::Refusal;
+use verdict::Verdict;
 ghost use mathlib.Core.Path.{_≡_};
 ghost use Rattle.iir_biquad.specs.Preemphasis.{constantTaken, rateTaken, preemphasisOf};
 
@@ -52,6 +52,6 @@ pub fn preemphasis_coefs(tau: f64, rate: f64) -> Preemphasis
             (1.0 - k * tau) / den,
             (1.0 - k * pole) / den,
         ],
-        verdict: Verdict::Fine,
+        verdict: Verdict::Done,
     }
 }

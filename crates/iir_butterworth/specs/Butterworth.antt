@@ -8,7 +8,8 @@ use lib.Ieee.{Float, nan}
 use Rattle.laws.specs.Binary64.{_⊖_, _⊗_, _⊘_, whole, pi}
 use Rattle.math_trig.specs.Trig.{cosOf}
 use Rattle.verdict.specs.declared.Refusal.the-variants.{Plain, Range, Length}
-use Rattle.fir_lowpass.specs.Outcome.{Outcome, Made, Turned}
+use Rattle.verdict.specs.Outcome.{Outcome}
+use Rattle.verdict.specs.Outcome as Outcome
 use Rattle.iir_biquad.specs.Biquad.{centreTaken, biquadOf}
 use Rattle.iir_biquad.specs.declared.biquad.Response.{Response}
 use Rattle.iir_biquad.specs.declared.biquad.Response.the-variants.{Lowpass, Highpass, Bandpass, Notch}
@@ -38,8 +39,8 @@ butterworthOf r order cutoff rate len =
     (cond (orderTaken order)
     (cond (eqb len (order / 2 * 5))
     (cond (centreTaken cutoff rate)
-    (Made len (whole 0) (coefAt r order cutoff rate))
-    (Turned (Range 2 (whole 0) (rate ⊘ whole 2) cutoff)))
-    (Turned (Length (order / 2 * 5) len)))
-    (Turned (Plain 6)))
-    (Turned (Plain 7))
+    (Outcome.Designed len (whole 0) (coefAt r order cutoff rate))
+    (Outcome.Refused (Range 2 (whole 0) (rate ⊘ whole 2) cutoff)))
+    (Outcome.Refused (Length (order / 2 * 5) len)))
+    (Outcome.Refused (Plain 6)))
+    (Outcome.Refused (Plain 7))

@@ -16,16 +16,18 @@ use Rattle.laws.specs.Floor.{floorZ}
 use Rattle.laws.specs.Tests.{both}
 use Rattle.math_round.specs.Whole.{floorOf, absOf, asFloat}
 use Rattle.math_trig.specs.Trig.{sinOf, cosOf}
-use Rattle.fir_lowpass.specs.Outcome.{Outcome, Made, Turned, answered}
-use Rattle.fir_lowpass.specs.declared.lowpass.Filled.the-variants as Filled
+use Rattle.verdict.specs.Outcome.{Outcome, answered}
+use Rattle.verdict.specs.Outcome as Outcome
+use Rattle.verdict.specs.declared.Verdict.the-variants as Verdict
 use Rattle.verdict.specs.declared.Refusal.{Refusal}
 use Rattle.verdict.specs.declared.Refusal.the-variants.{Plain, Range, Length}
 use Rattle.iir_biquad.specs.Biquad.{centreTaken, qualityTaken, sectionOf, biquadOf}
 use Rattle.iir_butterworth.specs.Butterworth.{responseTaken, orderTaken, qualityOf, coefAt, butterworthOf}
 use Rattle.iir_biquad.specs.declared.biquad.Response.{Response}
 use Rattle.iir_biquad.specs.declared.biquad.Response.the-variants.{Lowpass, Highpass, Bandpass, Notch}
-use Rattle.iir_biquad.specs.declared.biquad.Verdict.the-variants.{Fine}
+use Rattle.verdict.specs.declared.Verdict.the-variants.{Done}
 use Rattle.iir_biquad.specs.declared.biquad.Biquad.{Biquad}
+use Rattle.laws.specs.Cases.{either-way}
 
 -- ---- a list stored into another, one element more
 module _ {A : Type 0} where
@@ -57,10 +59,6 @@ module _ {A : Type 0} where
       ∙ ap (λ (k : ℕ). filled k f d) t
 
 -- ---- five numbers
-either-way : (P : Biquad → Type 0) (b : Bool) (x y : Biquad) → P x → P y → P (cond b x y)
-either-way P true x y p q = p
-either-way P false x y p q = q
-
 section-five : (r : Response) (c alpha : Float) → length (sectionOf r c alpha) ≡ 5
 unfolding sectionOf
 section-five Lowpass c alpha = refl
@@ -127,32 +125,32 @@ quality-taken order i t h =
     subst (λ (n : ℕ). qualityTaken (qualityOf n i) ≡ true) e (by-half (order / 2) i (omega arith) h)
 
 -- so each is the section of its quality, and none is refused
-pub never-refused : (r : Response) (order i : ℕ) (cutoff rate : Float) → orderTaken order ≡ true → i < order / 2 → centreTaken cutoff rate ≡ true → let w0 = whole 2 ⊗ pi ⊗ cutoff ⊘ rate in biquadOf r cutoff (qualityOf order i) rate ≡ record { coefs = sectionOf r (cosOf w0) (sinOf w0 ⊘ (whole 2 ⊗ qualityOf order i)); verdict = Fine }
+pub never-refused : (r : Response) (order i : ℕ) (cutoff rate : Float) → orderTaken order ≡ true → i < order / 2 → centreTaken cutoff rate ≡ true → let w0 = whole 2 ⊗ pi ⊗ cutoff ⊘ rate in biquadOf r cutoff (qualityOf order i) rate ≡ record { coefs = sectionOf r (cosOf w0) (sinOf w0 ⊘ (whole 2 ⊗ qualityOf order i)); verdict = Done }
 unfolding biquadOf
 never-refused r order i cutoff rate t h c = rw (c, quality-taken order i t h)
 
 -- ---- the outcome, from what the tests so far said
 module _ (r : Response) (order : ℕ) (cutoff rate : Float) (len : ℕ) where
-  pub no-response : responseTaken r ≡ false → butterworthOf r order cutoff rate len ≡ Turned (Plain 7)
+  pub no-response : responseTaken r ≡ false → butterworthOf r order cutoff rate len ≡ Outcome.Refused (Plain 7)
   unfolding butterworthOf
   no-response a = rw a
 
   module _ (a : responseTaken r ≡ true) where
-    pub no-order : orderTaken order ≡ false → butterworthOf r order cutoff rate len ≡ Turned (Plain 6)
+    pub no-order : orderTaken order ≡ false → butterworthOf r order cutoff rate len ≡ Outcome.Refused (Plain 6)
     unfolding butterworthOf
     no-order b = rw (a, b)
 
     module _ (b : orderTaken order ≡ true) where
-      pub no-length : eqb len (order / 2 * 5) ≡ false → butterworthOf r order cutoff rate len ≡ Turned (Length (order / 2 * 5) len)
+      pub no-length : eqb len (order / 2 * 5) ≡ false → butterworthOf r order cutoff rate len ≡ Outcome.Refused (Length (order / 2 * 5) len)
       unfolding butterworthOf
       no-length c = rw (a, b, c)
 
       module _ (c : eqb len (order / 2 * 5) ≡ true) where
-        pub no-centre : centreTaken cutoff rate ≡ false → butterworthOf r order cutoff rate len ≡ Turned (Range 2 (whole 0) (rate ⊘ whole 2) cutoff)
+        pub no-centre : centreTaken cutoff rate ≡ false → butterworthOf r order cutoff rate len ≡ Outcome.Refused (Range 2 (whole 0) (rate ⊘ whole 2) cutoff)
         unfolding butterworthOf
         no-centre e = rw (a, b, c, e)
 
-        pub made : centreTaken cutoff rate ≡ true → butterworthOf r order cutoff rate len ≡ Made len (whole 0) (coefAt r order cutoff rate)
+        pub made : centreTaken cutoff rate ≡ true → butterworthOf r order cutoff rate len ≡ Outcome.Designed len (whole 0) (coefAt r order cutoff rate)
         unfolding butterworthOf
         made e = rw (a, b, c, e)
 
@@ -160,12 +158,12 @@ module _ (r : Response) (order : ℕ) (cutoff rate : Float) (len : ℕ) where
 pub record Right (r : Response) (order : ℕ) (cutoff rate : Float) (len : ℕ) : Type 0 where
   pub even : OrderIs order
   pub count : len ≡ order / 2 * 5
-  pub is : butterworthOf r order cutoff rate len ≡ Made len (whole 0) (coefAt r order cutoff rate)
+  pub is : butterworthOf r order cutoff rate len ≡ Outcome.Designed len (whole 0) (coefAt r order cutoff rate)
 
-never : (why : Refusal) → Filled.Done ≡ Filled.Refused why → ⊥
+never : (why : Refusal) → Verdict.Done ≡ Verdict.Refused why → ⊥
 never why e = let z : _≡_ {A = ℕ} 0 1 = cc in omega arith
 
-pub right : (r : Response) (order : ℕ) (cutoff rate : Float) (len : ℕ) → Filled.Done ≡ answered (butterworthOf r order cutoff rate len) → Right r order cutoff rate len
+pub right : (r : Response) (order : ℕ) (cutoff rate : Float) (len : ℕ) → Verdict.Done ≡ answered (butterworthOf r order cutoff rate len) → Right r order cutoff rate len
 unfolding butterworthOf
 right r order cutoff rate len e =
     let t = go (responseTaken r) (orderTaken order) (eqb len (order / 2 * 5)) (centreTaken cutoff rate) (order-is order) (eqb-true len (order / 2 * 5)) e in
@@ -175,12 +173,12 @@ right r order cutoff rate len e =
     n = order / 2 * 5
 
     is : Outcome
-    is = Made len (whole 0) (coefAt r order cutoff rate)
+    is = Outcome.Designed len (whole 0) (coefAt r order cutoff rate)
 
     by : Bool → Bool → Bool → Bool → Outcome
-    by a b c d = cond a (cond b (cond c (cond d is (Turned (Range 2 (whole 0) (rate ⊘ whole 2) cutoff))) (Turned (Length n len))) (Turned (Plain 6))) (Turned (Plain 7))
+    by a b c d = cond a (cond b (cond c (cond d is (Outcome.Refused (Range 2 (whole 0) (rate ⊘ whole 2) cutoff))) (Outcome.Refused (Length n len))) (Outcome.Refused (Plain 6))) (Outcome.Refused (Plain 7))
 
-    go : (a b c d : Bool) → (b ≡ true → OrderIs order) → (c ≡ true → len ≡ n) → Filled.Done ≡ answered (by a b c d) → OrderIs order × (len ≡ n) × (by a b c d ≡ is)
+    go : (a b c d : Bool) → (b ≡ true → OrderIs order) → (c ≡ true → len ≡ n) → Verdict.Done ≡ answered (by a b c d) → OrderIs order × (len ≡ n) × (by a b c d ≡ is)
     go true true true true p q e = (p refl, q refl, refl)
     go true true true false p q e = absurd (never _ e)
     go true true false d p q e = absurd (never _ e)
@@ -188,6 +186,6 @@ right r order cutoff rate len e =
     go false b c d p q e = absurd (never _ e)
 
 -- ---- one that is refused
-pub turned : (why : Refusal) (o : Outcome) → Filled.Refused why ≡ answered o → o ≡ Turned why
-turned why (Made n sum tap) e = absurd (never why (sym e))
-turned why (Turned other) e = cc
+pub turned : (why : Refusal) (o : Outcome) → Verdict.Refused why ≡ answered o → o ≡ Outcome.Refused why
+turned why (Outcome.Designed n sum tap) e = absurd (never why (sym e))
+turned why (Outcome.Refused other) e = cc

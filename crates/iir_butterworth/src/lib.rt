@@ -1,14 +1,14 @@
 // Butterworth filters of even order as sections, five numbers each, one after the other.
-use fir_lowpass::lowpass::Filled;
-use verdict::Refusal;
 use iir_biquad::biquad::Response;
 use iir_biquad::biquad::biquad_coefs;
 use iir_biquad::biquad::takes_centre;
+use verdict::Refusal;
+use verdict::Verdict;
 ghost use mathlib.Core.Path.{_≡_};
 ghost use Prim.Native.Nat.{_+_, _<_, _≤_};
 ghost use lib.ListN.{length};
 ghost use lib.Seq.{sets};
-ghost use Rattle.fir_lowpass.specs.Outcome.{answered, Fills};
+ghost use Rattle.verdict.specs.Outcome.{answered, Fills};
 ghost use Rattle.iir_butterworth.specs.Butterworth.{responseTaken, orderTaken, qualityOf, butterworthOf};
 
 const PI: f64 = 3.141592653589793;
@@ -52,23 +52,23 @@ fn put_section(sos: &mut [f64], at: usize, coefs: [f64; 5])
 }
 
 // Whether a filter is taken, for a buffer of `len` elements. Refused, in this order: 7 a response that is neither low-pass nor high-pass; 6 an order that isn't even, from 2 to 8; 8 where the buffer hasn't 5 order/2 elements; 2 with 0, rate/2, cutoff as `biquad_coefs`. 5 can't come: every quality is finite and positive.
-pub fn judge(response: Response, order: u64, cutoff: f64, rate: f64, len: u64) -> Filled
+pub fn judge(response: Response, order: u64, cutoff: f64, rate: f64, len: u64) -> Verdict
     ensures { λ r. ⌜ r ≡ answered (butterworthOf response order cutoff rate len) ⌝ }
 {
     if !takes_response(response) {
-        return Filled::Refused(Refusal::Plain(7));
+        return Verdict::Refused(Refusal::Plain(7));
     }
     if !takes_order(order) {
-        return Filled::Refused(Refusal::Plain(6));
+        return Verdict::Refused(Refusal::Plain(6));
     }
     let expected = order / 2 * 5;
     if len != expected {
-        return Filled::Refused(Refusal::Length(expected, len));
+        return Verdict::Refused(Refusal::Length(expected, len));
     }
     if !takes_centre(cutoff, rate) {
-        return Filled::Refused(Refusal::Range(2, 0.0, rate / 2.0, cutoff));
+        return Verdict::Refused(Refusal::Range(2, 0.0, rate / 2.0, cutoff));
     }
-    Filled::Done
+    Verdict::Done
 }
 
 // Fills the buffer with order/2 sections, five numbers each, the lowest quality first. Refused as `judge`, with the buffer as it came.
@@ -78,20 +78,20 @@ pub fn butterworth_sos(
     cutoff: f64,
     rate: f64,
     sos: &mut [f64],
-) -> Filled
+) -> Verdict
     ensures { λ r. ⌜ Fills (butterworthOf response order cutoff rate (length (now (sos .entry)))) (now (sos .entry)) r (now (sos .exit)) ⌝ }
 {
     let judged = judge(response, order, cutoff, rate, sos.len() as u64);
     match judged {
-        Filled::Done => {
+        Verdict::Done => {
             let sections = (order / 2) as usize;
             for i in 0..sections {
                 let b = biquad_coefs(response, cutoff, quality(order, i as u64), rate);
                 let coefs = b.coefs;
                 put_section(&mut *sos, 5 * i, coefs);
             }
-            Filled::Done
+            Verdict::Done
         }
-        Filled::Refused(why) => Filled::Refused(why),
+        Verdict::Refused(why) => Verdict::Refused(why),
     }
 }

@@ -31,8 +31,8 @@ use Rattle.fmt_q15.specs.Q15.{moved, takes, q15Of, q15TapOf}
 use Rattle.fmt_q14.specs.Q14 as Q14
 use Rattle.fmt_q15.specs.declared.q15.Coded.{Coded}
 use Rattle.fmt_q15.specs.declared.q15.Coded.the-variants as Coded
-use Rattle.fir_length.specs.declared.order.Length.{Length}
-use Rattle.fir_length.specs.declared.order.Length.the-variants as Taps
+use Rattle.verdict.specs.declared.Length.{Length}
+use Rattle.verdict.specs.declared.Length.the-variants as Taps
 use Rattle.fir_rrc.specs.Rrc.{sampled, spanned, rrcLenOf}
 
 -- ---- tests

@@ -20,20 +20,20 @@ use Rattle.verdict.specs.declared.Refusal.the-variants.{Length}
 use Rattle.verdict.specs.declared.Report.{Report}
 use Rattle.verdict.specs.Report.{reportOf}
 use Rattle.fmt_q15.specs.Q15.{q15Of}
-use Rattle.fmt_q15.specs.declared.q15.Converted.{Converted}
-use Rattle.fmt_q15.specs.declared.q15.Converted.the-variants.{Done, Refused}
+use Rattle.verdict.specs.declared.Verdict.{Verdict}
+use Rattle.verdict.specs.declared.Verdict.the-variants.{Done, Refused}
 use Rattle.c_formats.specs.declared.element.Format.{Format}
 use Rattle.c_formats.specs.declared.element.Format.the-variants.{Q15, Q14, Single}
-use Rattle.c_formats.specs.Reports.{convertedReport}
+use Rattle.verdict.specs.Reports.{doneReport}
 use Rattle.c_formats.specs.Formats.{widthOf, takesOf, patternOf, outsideOf, bytesIn}
 use Rattle.c_formats.specs.Conversions.{floats, lengthsOf, takenOf, storedOf, thenOf, leftOf, ConvertsBytes}
 use Rattle.c_formats.specs.ConversionLaws.{only-done, right-lengths}
 
 -- ---- an accepted conversion is done: none of its refusals has the number 0
-abbrev ZeroIsDone : Converted → Type 0
-ZeroIsDone c = (n : ℕ) → convertedReport n c .number ≡ 0 → c ≡ Done
+abbrev ZeroIsDone : Verdict → Type 0
+ZeroIsDone c = (n : ℕ) → doneReport n c .number ≡ 0 → c ≡ Done
 
-cond-zero : (b : Bool) (c : Converted) (why : Refusal) → (reportOf why .number ≡ 0 → ⊥) → ZeroIsDone c → ZeroIsDone (cond b c (Refused why))
+cond-zero : (b : Bool) (c : Verdict) (why : Refusal) → (reportOf why .number ≡ 0 → ⊥) → ZeroIsDone c → ZeroIsDone (cond b c (Refused why))
 cond-zero true c why never h = h
 cond-zero false c why never h = λ n e. absurd (never e)
 
@@ -62,7 +62,7 @@ taken-zero f s =
     let k = firstBad (takesOf f) s in
     cond-zero (eqb k (length s)) Done (outsideOf f k (getD s k nan)) (outside-some f k (getD s k nan)) (λ k e. refl)
 
-both-done : (a b : Converted) → ZeroIsDone a → ZeroIsDone b → (n : ℕ) → convertedReport n (thenOf a b) .number ≡ 0 → (a ≡ Done) × (b ≡ Done)
+both-done : (a b : Verdict) → ZeroIsDone a → ZeroIsDone b → (n : ℕ) → doneReport n (thenOf a b) .number ≡ 0 → (a ≡ Done) × (b ≡ Done)
 both-done Done b p q n e = (refl, q n e)
 both-done (Refused why) b p q n e = let never = p n e in (never, cc)
 
@@ -79,7 +79,7 @@ element-bytes f g s before after r c e i h =
     let done = both-done lengths (takenOf f (floats s)) (lengths-zero w g (length s) (length before)) (taken-zero f (floats s)) n (subst (λ (z : Report). z .number ≡ 0) (c .answer) e) in
     let bad = firstBad (takesOf f) (floats s) in
     let all = eqb-true bad (length (floats s)) (only-done (eqb bad (length (floats s))) Done _ (done .1) .0) ∙ length-tabulate n (λ k. floatAt s (8 * k)) in
-    let stored = ap (λ (l : Converted). leftOf l (storedOf f (floats s) before) before) (done .0) in
+    let stored = ap (λ (l : Verdict). leftOf l (storedOf f (floats s) before) before) (done .0) in
     let written : after ≡ chunked w n bytes before = c .buffer ∙ stored ∙ ap (λ (k : ℕ). chunked w k bytes before) all in
     ap (λ (d : List ℕ). take w (drop (w * i) d)) (written ∙ chunk-all w bytes width n before (le-of-eq (right-lengths w g (length s) (length before) (done .0) .1)))
     ∙ chunk-at w bytes width n i h

@@ -24,7 +24,8 @@ use Rattle.math_numbers.specs.Numbers.{positive}
 use Rattle.math_bessel.specs.Series.{seriesOf}
 use Rattle.fir_length.specs.Kaiser.{betaOf, orderOf}
 use Rattle.fmt_q15.specs.Q15.{moved, takes}
-use Rattle.fir_lowpass.specs.Outcome.{Outcome, Made, Turned}
+use Rattle.verdict.specs.Outcome.{Outcome}
+use Rattle.verdict.specs.Outcome as Outcome
 use Rattle.fir_sinc.specs.Windows.{windowAt, normOf}
 use Rattle.fir_lowpass.specs.Lowpass as Lowpass
 use Rattle.fir_spec.specs.Spec.{specOrderOf, specDesignOf}
@@ -33,10 +34,12 @@ use Rattle.fir_gaussian.specs.Gaussian as Gaussian
 use Rattle.fir_channelizer.specs.Channelizer as Channelizer
 use Rattle.c_lowpass.specs.Codes.{windowOf}
 use Rattle.c_lowpass.specs.Lowpass.{lowpassBytes}
-use Rattle.c_lowpass.specs.Buffers.{halfbandBytes, gaussianBytes, channelizerBytes}
+use Rattle.c_lowpass.specs.Prototype.{channelizerBytes}
+use Rattle.c_pulses.specs.Buffers.{halfbandBytes, gaussianBytes}
 use Rattle.c_lowpass.specs.Spec.{specBytes, specOf}
-use Rattle.c_lowpass.specs.Reports.{outcomeReport}
-use Rattle.c_lowpass.specs.Taps.{written}
+use Rattle.verdict.specs.Reports.{outcomeReport}
+use Rattle.wire.specs.Bytes.{floatBytes}
+use Rattle.wire.specs.Writes.{written}
 use Rattle.promise_totals.specs.Bounds.{unsaturated}
 use Rattle.promise_totals.specs.Sound.{Sound}
 use Rattle.promise_totals.specs.Written.{Accepted, divisorIn, tapsIn}
@@ -56,8 +59,8 @@ all b (t ∷ ts) = b t && all b ts
 
 unfoldable pub met : Outcome → Bool
 unfolding all
-met (Made n divisor tap) = finite divisor && (all finite (tabulate n tap) && (all takes (tabulate n tap) && all unsaturated (tabulate n tap)))
-met (Turned why) = false
+met (Outcome.Designed n divisor tap) = finite divisor && (all finite (tabulate n tap) && (all takes (tabulate n tap) && all unsaturated (tabulate n tap)))
+met (Outcome.Refused why) = false
 
 both : (a b : Bool) → T (a && b) → T a × T b
 both a b h = (and-l a b h, and-r a b h)
@@ -68,16 +71,16 @@ all-each b [] h = tt
 all-each b (t ∷ ts) h = let p = both (b t) (all b ts) h in (p .0, all-each b ts (p .1))
 
 -- an outcome that passes it meets them, with whatever was in the buffer
-pub met-premises : (o : Outcome) (before : List ℕ) → Sound o → T (met o) → Premises (outcomeReport o) (written o before)
+pub met-premises : (o : Outcome) (before : List ℕ) → Sound o → T (met o) → Premises (outcomeReport o) (written floatBytes o before)
 unfolding met acceptedOf
-met-premises (Made n divisor tap) before (taps, fit) h =
+met-premises (Outcome.Designed n divisor tap) before (taps, fit) h =
     let ts = tabulate n tap in
     let p = both (finite divisor) (all finite ts && (all takes ts && all unsaturated ts)) h in
     let q = both (all finite ts) (all takes ts && all unsaturated ts) (p .1) in
     let s = both (all takes ts) (all unsaturated ts) (q .1) in
-    let read : (b : Float → Bool) → T (all b ts) → Each b (floatsIn n (written (Made n divisor tap) before)) = λ b u. subst (λ (z : List Float). Each b z) (sym (floats-back n tap fit)) (all-each b ts u) in
+    let read : (b : Float → Bool) → T (all b ts) → Each b (floatsIn n (written floatBytes (Outcome.Designed n divisor tap) before)) = λ b u. subst (λ (z : List Float). Each b z) (sym (floats-back n tap fit)) (all-each b ts u) in
     record { accepted = refl; divisor = p .0; finites = read finite (q .0); taken = read takes (s .0); within = read unsaturated (s .1) }
-met-premises (Turned why) before numbered h = absurd h
+met-premises (Outcome.Refused why) before numbered h = absurd h
 
 -- ---- a ticket of each kind
 -- Hann's window, cutoff 0.25 at the rate 1, 5 taps

@@ -13,18 +13,20 @@ use Rattle.wire.specs.Read.{chunk-at, float-bytes}
 use Rattle.verdict.specs.Report.{acceptedOf}
 use Rattle.verdict.specs.declared.Refusal.the-variants as Refusal
 use Rattle.verdict.specs.declared.Report.{Report}
-use Rattle.fir_lowpass.specs.Outcome.{Outcome, Made, Turned}
+use Rattle.verdict.specs.Outcome.{Outcome}
+use Rattle.verdict.specs.Outcome as Outcome
 use Rattle.fir_halfband.specs.Halfband.{distance, halfbandOf, tapOf, outcomeOf}
 use Rattle.fir_halfband.specs.HalfbandLaws.{accepted}
 use Rattle.fir_halfband.specs.Mirror.{IsZero, mirror, zero-taps}
 use Rattle.fir_halfband.specs.declared.HalfbandDesign.{HalfbandDesign}
 use Rattle.fir_halfband.specs.declared.HalfbandDesigned.{HalfbandDesigned}
 use Rattle.fir_halfband.specs.declared.HalfbandDesigned.the-variants.{Ready, Refused}
-use Rattle.c_lowpass.specs.Buffers.{halfbandBytes}
-use Rattle.c_lowpass.specs.Reports.{outcomeReport}
-use Rattle.c_lowpass.specs.Taps.{Writes, written}
-use Rattle.promise_totals.specs.Sound.{Sound, either-way, halfband-bytes-sound}
+use Rattle.c_pulses.specs.Buffers.{halfbandBytes}
+use Rattle.verdict.specs.Reports.{outcomeReport}
+use Rattle.wire.specs.Writes.{Writes, written}
+use Rattle.promise_totals.specs.Sound.{Sound, halfband-bytes-sound}
 use Rattle.promise_totals.specs.Written.{by-writes}
+use Rattle.laws.specs.Cases.{either-way}
 
 -- ---- the taps
 record Symmetric (n : ℕ) (tap : ℕ → Float) : Type 0 where
@@ -32,8 +34,8 @@ record Symmetric (n : ℕ) (tap : ℕ → Float) : Type 0 where
   zeros : (i : ℕ) → i < n → distance n i % 2 ≡ 0 → (distance n i ≡ 0 → ⊥) → IsZero (tap i)
 
 abbrev WhereMade : Outcome → Type 0
-WhereMade (Made n divisor tap) = Symmetric n tap
-WhereMade (Turned why) = Unit {0}
+WhereMade (Outcome.Designed n divisor tap) = Symmetric n tap
+WhereMade (Outcome.Refused why) = Unit {0}
 
 halfband-symmetric : (beta : Float) (n : ℕ) → WhereMade (outcomeOf (halfbandOf beta n))
 halfband-symmetric beta n = go (halfbandOf beta n) refl
@@ -45,7 +47,7 @@ halfband-symmetric beta n = go (halfbandOf beta n) refl
     go (Refused why) e = tt
 
 bytes-symmetric : (beta : Float) (len : ℕ) → WhereMade (halfbandBytes beta len)
-bytes-symmetric beta len = either-way WhereMade (eqb (len % 8) 0) (outcomeOf (halfbandOf beta (len / 8))) (Turned (Refusal.Length (len - len % 8) len)) (halfband-symmetric beta (len / 8)) tt
+bytes-symmetric beta len = either-way WhereMade (eqb (len % 8) 0) (outcomeOf (halfbandOf beta (len / 8))) (Outcome.Refused (Refusal.Length (len - len % 8) len)) (halfband-symmetric beta (len / 8)) tt
 
 -- ---- the statements, of the export's report r and of its buffer afterwards
 -- "accepted": the report's number is 0. n taps: n is the report's count, tap i the eight bytes from 8 i on
@@ -61,18 +63,18 @@ Vanishes r after = r .number ≡ 0 → (i : ℕ) → i < r .count → distance (
 tap-bytes : (n : ℕ) (tap : ℕ → Float) (i : ℕ) → i < n → take 8 (drop (8 * i) (chunks n (λ i. floatBytes (tap i)))) ≡ floatBytes (tap i)
 tap-bytes n tap i h = chunk-at 8 (λ i. floatBytes (tap i)) (λ i. length-bytes 8 (toBits binary64 (tap i))) n i h
 
-symmetric-mirrored : (o : Outcome) (before : List ℕ) → Sound o → WhereMade o → Mirrored (outcomeReport o) (written o before)
+symmetric-mirrored : (o : Outcome) (before : List ℕ) → Sound o → WhereMade o → Mirrored (outcomeReport o) (written floatBytes o before)
 unfolding acceptedOf
-symmetric-mirrored (Made n divisor tap) before sound s e i h = tap-bytes n tap i h ∙ ap floatBytes (s .mirrored i h) ∙ sym (tap-bytes n tap (n - 1 - i) (omega arith))
-symmetric-mirrored (Turned why) before numbered s e i h = absurd (numbered e)
+symmetric-mirrored (Outcome.Designed n divisor tap) before sound s e i h = tap-bytes n tap i h ∙ ap floatBytes (s .mirrored i h) ∙ sym (tap-bytes n tap (n - 1 - i) (omega arith))
+symmetric-mirrored (Outcome.Refused why) before numbered s e i h = absurd (numbered e)
 
-symmetric-vanishes : (o : Outcome) (before : List ℕ) → Sound o → WhereMade o → Vanishes (outcomeReport o) (written o before)
+symmetric-vanishes : (o : Outcome) (before : List ℕ) → Sound o → WhereMade o → Vanishes (outcomeReport o) (written floatBytes o before)
 unfolding acceptedOf
-symmetric-vanishes (Made n divisor tap) before (taps, fit) s e i h p q = subst IsZero (sym (ap floatOf (tap-bytes n tap i h) ∙ float-bytes (tap i) (fit i))) (s .zeros i h p q)
-symmetric-vanishes (Turned why) before numbered s e i h p q = absurd (numbered e)
+symmetric-vanishes (Outcome.Designed n divisor tap) before (taps, fit) s e i h p q = subst IsZero (sym (ap floatOf (tap-bytes n tap i h) ∙ float-bytes (tap i) (fit i))) (s .zeros i h p q)
+symmetric-vanishes (Outcome.Refused why) before numbered s e i h p q = absurd (numbered e)
 
 -- ---- of `pel_halfband`; `Writes` is what it ensures
-module _ (beta : Float) (before after : List ℕ) (r : Report) (w : Writes (halfbandBytes beta (length before)) before r after) where
+module _ (beta : Float) (before after : List ℕ) (r : Report) (w : Writes floatBytes (halfbandBytes beta (length before)) before r after) where
   pub halfband-mirrored : Mirrored r after
   halfband-mirrored = by-writes Mirrored w (symmetric-mirrored (halfbandBytes beta (length before)) before (halfband-bytes-sound beta (length before)) (bytes-symmetric beta (length before)))
 

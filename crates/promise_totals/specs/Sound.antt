@@ -15,7 +15,8 @@ use Rattle.verdict.specs.declared.Refusal.the-variants as Refusal
 use Rattle.fir_length.specs.Kaiser.{betaOf, estimate, orderOf}
 use Rattle.fir_length.specs.declared.order.Order.{Order}
 use Rattle.fir_length.specs.declared.order.Order.the-variants as Order
-use Rattle.fir_lowpass.specs.Outcome.{Outcome, Made, Turned}
+use Rattle.verdict.specs.Outcome.{Outcome}
+use Rattle.verdict.specs.Outcome as Outcome
 use Rattle.fir_lowpass.specs.Lowpass as Lowpass
 use Rattle.fir_spec.specs.Spec.{cutoffTaken, cappedOf, specOrderOf, designIn, specDesignOf}
 use Rattle.fir_sinc.specs.declared.window.Window.{Window}
@@ -31,16 +32,18 @@ use Rattle.fir_gaussian.specs.declared.gaussian_design.GaussianDesigned.{Gaussi
 use Rattle.fir_gaussian.specs.declared.gaussian_design.GaussianDesigned.the-variants as GaussianDesigned
 use Rattle.fir_channelizer.specs.Channelizer as Channelizer
 use Rattle.fir_channelizer.specs.ChannelizerLaws.{prototypeOf}
-use Rattle.fir_channelizer.specs.declared.Checked.{Checked}
-use Rattle.fir_channelizer.specs.declared.Checked.the-variants as Checked
+use Rattle.verdict.specs.declared.Verdict.{Verdict}
+use Rattle.verdict.specs.declared.Verdict.the-variants as Verdict
 use Rattle.c_lowpass.specs.Lowpass.{lowpassBytes}
-use Rattle.c_lowpass.specs.Buffers.{halfbandBytes, gaussianBytes, channelizerBytes}
+use Rattle.c_lowpass.specs.Prototype.{channelizerBytes}
+use Rattle.c_pulses.specs.Buffers.{halfbandBytes, gaussianBytes}
 use Rattle.c_lowpass.specs.Spec.{specBytes}
-use Rattle.c_lowpass.specs.Taps.{wholeTaps}
+use Rattle.wire.specs.Writes.{wholeTaps}
 use Rattle.c_lowpass.specs.declared.codes.Coded.{Coded}
 use Rattle.c_lowpass.specs.declared.codes.Coded.the-variants.{Known, Unknown}
 use Rattle.promise_totals.specs.Normalised.{Normalised}
 use Rattle.promise_totals.specs.Kinds.{lowpass-normalised, lowpass-tap-fits, halfband-normalised, halfband-tap-fits, gaussian-normalised, gaussian-tap-fits}
+use Rattle.laws.specs.Cases.{either-way}
 
 -- ---- what is shown
 -- a refusal's number is not 0
@@ -49,18 +52,13 @@ Numbered why = reportOf why .number ≡ 0 → ⊥
 
 -- of an accepted ticket the taps, each an f64; of another the refusal
 abbrev pub Sound : Outcome → Type 0
-Sound (Made n divisor tap) = Normalised n divisor tap × ((i : ℕ) → T (fits binary64 (tap i)))
-Sound (Turned why) = Numbered why
+Sound (Outcome.Designed n divisor tap) = Normalised n divisor tap × ((i : ℕ) → T (fits binary64 (tap i)))
+Sound (Outcome.Refused why) = Numbered why
 
 -- of a refused ticket alone
 abbrev Refuses : Outcome → Type 0
-Refuses (Made n divisor tap) = Unit {0}
-Refuses (Turned why) = Numbered why
-
--- ---- one of two answers, by a test
-pub either-way : {D : Type 0} (P : D → Type 0) (b : Bool) (x y : D) → P x → P y → P (cond b x y)
-either-way P true x y p q = p
-either-way P false x y p q = q
+Refuses (Outcome.Designed n divisor tap) = Unit {0}
+Refuses (Outcome.Refused why) = Numbered why
 
 -- ---- the refusals
 plain-numbered : (k : ℕ) → 0 < k → Numbered (Refusal.Plain k)
@@ -81,7 +79,7 @@ cap-numbered a b e = omega (arith, e)
 
 -- a buffer of bytes that isn't whole taps is refused
 whole-sound : (len : ℕ) (o : Outcome) → Sound o → Sound (wholeTaps len o)
-whole-sound len o x = either-way Sound (eqb (len % 8) 0) o (Turned (Refusal.Length (len - len % 8) len)) x (length-numbered (len - len % 8) len)
+whole-sound len o x = either-way Sound (eqb (len % 8) 0) o (Outcome.Refused (Refusal.Length (len - len % 8) len)) x (length-numbered (len - len % 8) len)
 
 -- ---- the low-pass
 module _ (cutoff rate : Float) (w : Window) (n : ℕ) where
@@ -209,9 +207,9 @@ gaussian-bytes-sound bt sps span len = whole-sound len _ (gaussian-fitted (Gauss
 
 -- ---- the channelizer's prototype
 -- band edges that are refused have a number
-abbrev EdgesRefuse : Checked → Type 0
-EdgesRefuse Checked.Fine = Unit {0}
-EdgesRefuse (Checked.Refused why) = Numbered why
+abbrev EdgesRefuse : Verdict → Type 0
+EdgesRefuse Verdict.Done = Unit {0}
+EdgesRefuse (Verdict.Refused why) = Numbered why
 
 edges-refuse : (passband stopband a : Float) → EdgesRefuse (Channelizer.edgesOf passband stopband a)
 unfolding Channelizer.edgesOf
@@ -222,9 +220,9 @@ edges-refuse passband stopband a =
     (plain-numbered 2 (lit≤ tt)))
     (plain-numbered 2 (lit≤ tt))
 
-edges-sound : (c : Checked) (d : Designed) → EdgesRefuse c → Sound (Lowpass.outcomeOf d) → Sound (Lowpass.outcomeOf (Channelizer.lowpassIn c d))
-edges-sound Checked.Fine d x y = y
-edges-sound (Checked.Refused why) d x y = x
+edges-sound : (c : Verdict) (d : Designed) → EdgesRefuse c → Sound (Lowpass.outcomeOf d) → Sound (Lowpass.outcomeOf (Channelizer.lowpassIn c d))
+edges-sound Verdict.Done d x y = y
+edges-sound (Verdict.Refused why) d x y = x
 
 channelizer-sound : (m l : ℕ) (passband stopband a : Float) → Sound (Lowpass.outcomeOf (Channelizer.channelizerLowpassOf m l passband stopband a))
 unfolding Channelizer.channelizerLowpassOf

@@ -14,14 +14,17 @@ use Rattle.wire.specs.Read.{floats-back}
 use Rattle.verdict.specs.Report.{acceptedOf}
 use Rattle.verdict.specs.declared.Report.{Report}
 use Rattle.fmt_q15.specs.Q15.{takes}
-use Rattle.fir_lowpass.specs.Outcome.{Outcome, Made, Turned}
+use Rattle.verdict.specs.Outcome.{Outcome}
+use Rattle.verdict.specs.Outcome as Outcome
 use Rattle.fir_spec.specs.declared.DesignSpec.{DesignSpec}
 use Rattle.c_lowpass.specs.Codes.{windowOf}
 use Rattle.c_lowpass.specs.Lowpass.{lowpassBytes}
-use Rattle.c_lowpass.specs.Buffers.{halfbandBytes, gaussianBytes, channelizerBytes}
-use Rattle.c_lowpass.specs.Reports.{outcomeReport}
+use Rattle.c_lowpass.specs.Prototype.{channelizerBytes}
+use Rattle.c_pulses.specs.Buffers.{halfbandBytes, gaussianBytes}
+use Rattle.verdict.specs.Reports.{outcomeReport}
 use Rattle.c_lowpass.specs.Spec.{specBytes}
-use Rattle.c_lowpass.specs.Taps.{Writes, written}
+use Rattle.wire.specs.Bytes.{floatBytes}
+use Rattle.wire.specs.Writes.{Writes, written}
 use Rattle.promise_totals.specs.Bounds.{TapTotal, Q15Total, unsaturated}
 use Rattle.promise_totals.specs.Normalised.{tap-total, q15-total}
 use Rattle.promise_totals.specs.Sound.{Sound, lowpass-bytes-sound, spec-bytes-sound, halfband-bytes-sound, gaussian-bytes-sound, channelizer-bytes-sound}
@@ -47,40 +50,40 @@ pub record Totals (r : Report) (after : List ℕ) : Type 0 where
 
 -- ---- of any outcome
 -- what holds of an outcome's report and buffer holds of what an export answers and leaves
-pub by-writes : (P : Report → List ℕ → Type 0) {o : Outcome} {before after : List ℕ} {r : Report} → Writes o before r after → P (outcomeReport o) (written o before) → P r after
-by-writes P {o} {before} {after} {r} w p = subst (λ (z : List ℕ). P r z) (sym (w .buffer)) (subst (λ (z : Report). P z (written o before)) (sym (w .answer)) p)
+pub by-writes : (P : Report → List ℕ → Type 0) {o : Outcome} {before after : List ℕ} {r : Report} → Writes floatBytes o before r after → P (outcomeReport o) (written floatBytes o before) → P r after
+by-writes P {o} {before} {after} {r} w p = subst (λ (z : List ℕ). P r z) (sym (w .buffer)) (subst (λ (z : Report). P z (written floatBytes o before)) (sym (w .answer)) p)
 
-sound-totals : (o : Outcome) (before : List ℕ) → Sound o → Totals (outcomeReport o) (written o before)
+sound-totals : (o : Outcome) (before : List ℕ) → Sound o → Totals (outcomeReport o) (written floatBytes o before)
 unfolding acceptedOf
-sound-totals (Made n divisor tap) before (taps, fit) =
-    let back : floatsIn n (written (Made n divisor tap) before) ≡ tabulate n tap = floats-back n tap fit in
-    let in-taps : (b : Float → Bool) → Each b (floatsIn n (written (Made n divisor tap) before)) → Each b (tabulate n tap) = λ b u. subst (λ (z : List Float). Each b z) back u in
+sound-totals (Outcome.Designed n divisor tap) before (taps, fit) =
+    let back : floatsIn n (written floatBytes (Outcome.Designed n divisor tap) before) ≡ tabulate n tap = floats-back n tap fit in
+    let in-taps : (b : Float → Bool) → Each b (floatsIn n (written floatBytes (Outcome.Designed n divisor tap) before)) → Each b (tabulate n tap) = λ b u. subst (λ (z : List Float). Each b z) back u in
     record {
       taps = λ e t u. subst TapTotal (sym back) (tap-total taps t (in-taps finite u));
       codes = λ e t u v w. subst Q15Total (sym back) (q15-total taps t (in-taps finite u) (in-taps takes v) (in-taps unsaturated w));
     }
-sound-totals (Turned why) before numbered = record { taps = λ e t u. absurd (numbered e); codes = λ e t u v w. absurd (numbered e) }
+sound-totals (Outcome.Refused why) before numbered = record { taps = λ e t u. absurd (numbered e); codes = λ e t u v w. absurd (numbered e) }
 
-of-writes : {o : Outcome} {before after : List ℕ} {r : Report} → Sound o → Writes o before r after → Totals r after
+of-writes : {o : Outcome} {before after : List ℕ} {r : Report} → Sound o → Writes floatBytes o before r after → Totals r after
 of-writes {o} {before} s w = by-writes Totals w (sound-totals o before s)
 
 -- ---- of each export; `Writes` is what it ensures
 -- `pel_lowpass`
-pub lowpass-written : (cutoff rate : Float) (code : ℕ) (beta : Float) (before after : List ℕ) (r : Report) → Writes (lowpassBytes cutoff rate (windowOf code beta) (length before)) before r after → Totals r after
+pub lowpass-written : (cutoff rate : Float) (code : ℕ) (beta : Float) (before after : List ℕ) (r : Report) → Writes floatBytes (lowpassBytes cutoff rate (windowOf code beta) (length before)) before r after → Totals r after
 lowpass-written cutoff rate code beta before after r w = of-writes (lowpass-bytes-sound cutoff rate (windowOf code beta) (length before)) w
 
 -- `pel_spec_design`
-pub spec-written : (spec : DesignSpec) (rate : Float) (m : ℕ) (before after : List ℕ) (r : Report) → Writes (specBytes spec rate m (length before)) before r after → Totals r after
+pub spec-written : (spec : DesignSpec) (rate : Float) (m : ℕ) (before after : List ℕ) (r : Report) → Writes floatBytes (specBytes spec rate m (length before)) before r after → Totals r after
 spec-written spec rate m before after r w = of-writes (spec-bytes-sound spec rate m (length before)) w
 
 -- `pel_halfband`
-pub halfband-written : (beta : Float) (before after : List ℕ) (r : Report) → Writes (halfbandBytes beta (length before)) before r after → Totals r after
+pub halfband-written : (beta : Float) (before after : List ℕ) (r : Report) → Writes floatBytes (halfbandBytes beta (length before)) before r after → Totals r after
 halfband-written beta before after r w = of-writes (halfband-bytes-sound beta (length before)) w
 
 -- `pel_gaussian`
-pub gaussian-written : (bt : Float) (sps span : ℕ) (before after : List ℕ) (r : Report) → Writes (gaussianBytes bt sps span (length before)) before r after → Totals r after
+pub gaussian-written : (bt : Float) (sps span : ℕ) (before after : List ℕ) (r : Report) → Writes floatBytes (gaussianBytes bt sps span (length before)) before r after → Totals r after
 gaussian-written bt sps span before after r w = of-writes (gaussian-bytes-sound bt sps span (length before)) w
 
 -- `pel_channelizer_prototype`
-pub channelizer-written : (channels branch : ℕ) (passband stopband attenuation : Float) (before after : List ℕ) (r : Report) → Writes (channelizerBytes channels branch passband stopband attenuation (length before)) before r after → Totals r after
+pub channelizer-written : (channels branch : ℕ) (passband stopband attenuation : Float) (before after : List ℕ) (r : Report) → Writes floatBytes (channelizerBytes channels branch passband stopband attenuation (length before)) before r after → Totals r after
 channelizer-written channels branch passband stopband attenuation before after r w = of-writes (channelizer-bytes-sound channels branch passband stopband attenuation (length before)) w

@@ -11,11 +11,12 @@ use Rattle.laws.specs.Filled.{tabulate, tabulate-below}
 use Rattle.laws.specs.Sums.{sum-below}
 use Rattle.verdict.specs.declared.Refusal.{Refusal}
 use Rattle.verdict.specs.declared.Refusal.the-variants.{Plain}
-use Rattle.fir_lowpass.specs.Outcome.{Outcome, Made, Turned, Fills}
+use Rattle.verdict.specs.Outcome.{Outcome, Fills}
+use Rattle.verdict.specs.Outcome as Outcome
 use Rattle.fir_lowpass.specs.Lowpass as Lowpass
 use Rattle.fir_lowpass.specs.LowpassLaws.{ready-is}
 use Rattle.fir_sinc.specs.declared.window.Window.the-variants.{Kaiser}
-use Rattle.fir_lowpass.specs.declared.lowpass.Filled.the-variants as Filled
+use Rattle.verdict.specs.declared.Verdict.the-variants as Verdict
 use Rattle.fir_lowpass.specs.declared.lowpass.Lowpass.{Lowpass}
 use Rattle.fir_lowpass.specs.declared.lowpass.Designed.{Designed}
 use Rattle.fir_lowpass.specs.declared.lowpass.Designed.the-variants as Designed
@@ -28,10 +29,10 @@ use Rattle.fir_halfband.specs.declared.HalfbandDesigned.the-variants.{Ready, Re
 
 -- the same refusal, or as many taps, the same divisor, and the same taps
 abbrev pub Agrees : Outcome → Outcome → Type 0
-Agrees (Made n s t) (Made m u v) = (n ≡ m) × (s ≡ u) × ((k : ℕ) → k < n → t k ≡ v k)
-Agrees (Made n s t) (Turned why) = ⊥
-Agrees (Turned why) (Made m u v) = ⊥
-Agrees (Turned why) (Turned other) = why ≡ other
+Agrees (Outcome.Designed n s t) (Outcome.Designed m u v) = (n ≡ m) × (s ≡ u) × ((k : ℕ) → k < n → t k ≡ v k)
+Agrees (Outcome.Designed n s t) (Outcome.Refused why) = ⊥
+Agrees (Outcome.Refused why) (Outcome.Designed m u v) = ⊥
+Agrees (Outcome.Refused why) (Outcome.Refused other) = why ≡ other
 
 -- ---- a low-pass of n taps, n being odd
 module _ (l : Lowpass) (o : l .n % 2 ≡ 1) where
@@ -48,10 +49,10 @@ module _ (l : Lowpass) (o : l .n % 2 ≡ 1) where
 
   agree-in : Agrees (tapsIn (Designed.Ready l)) (outcomeOf (halfbandIn (l .n) (Designed.Ready l)))
   agree-in =
-      subst (λ (z : Float). Agrees (cond (Lowpass.usable z) (Made (l .n) z (λ k. mirrored l k ⊘ z)) (Turned (Plain 10))) (outcomeOf (halfbandIn (l .n) (Designed.Ready l)))) divisor-mirrored
+      subst (λ (z : Float). Agrees (cond (Lowpass.usable z) (Outcome.Designed (l .n) z (λ k. mirrored l k ⊘ z)) (Outcome.Refused (Plain 10))) (outcomeOf (halfbandIn (l .n) (Designed.Ready l)))) divisor-mirrored
       (tested (Lowpass.usable (divisorOf l (l .n))))
     where
-      tested : (b : Bool) → Agrees (cond b (Made (l .n) (divisorOf l (l .n)) (λ k. mirrored l k ⊘ divisorOf l (l .n))) (Turned (Plain 10))) (outcomeOf (cond b (Ready (halved l (l .n))) (Refused (Plain 10))))
+      tested : (b : Bool) → Agrees (cond b (Outcome.Designed (l .n) (divisorOf l (l .n)) (λ k. mirrored l k ⊘ divisorOf l (l .n))) (Outcome.Refused (Plain 10))) (outcomeOf (cond b (Ready (halved l (l .n))) (Refused (Plain 10))))
       tested true = (refl, refl, λ k h. ap (λ (z : Float). z ⊘ divisorOf l (l .n)) (sym (unscaled-mirrored k h)) ∙ sym (tap-is (halved l (l .n)) k h))
       tested false = refl
 
@@ -61,7 +62,7 @@ unfolding halfbandTapsOf halfbandOf
 agree beta n = go (lengthTaken n) (quarterOf beta n) refl refl
   where
     go : (a : Bool) (q : Designed) → lengthTaken n ≡ a → quarterOf beta n ≡ q
-        → Agrees (cond a (tapsIn q) (Turned (Plain 6))) (outcomeOf (cond a (halfbandIn n q) (Refused (Plain 6))))
+        → Agrees (cond a (tapsIn q) (Outcome.Refused (Plain 6))) (outcomeOf (cond a (halfbandIn n q) (Refused (Plain 6))))
     go true (Designed.Ready l) a b =
         let e : l .n ≡ n = ap (λ (z : Lowpass). z .n) (ready-is _ _ (Kaiser beta) n l b .is) in
         subst (λ (m : ℕ). Agrees (tapsIn (Designed.Ready l)) (outcomeOf (halfbandIn m (Designed.Ready l)))) e
@@ -75,19 +76,19 @@ module _ (beta : Float) (before : List Float) where
   agree-on g h = subst (λ (z : HalfbandDesigned). Agrees (halfbandTapsOf beta (length before)) (outcomeOf z)) h (agree beta (length before))
 
   pub fills : (d : HalfbandDesign) (after : List Float) → halfbandOf beta (length before) ≡ Ready d → after ≡ tabulate (length before) (tapOf d)
-      → Fills (halfbandTapsOf beta (length before)) before Filled.Done after
+      → Fills (halfbandTapsOf beta (length before)) before Verdict.Done after
   fills d after h e = go (halfbandTapsOf beta (length before)) (agree-on (Ready d) h)
     where
       long : d .n ≡ length before
       long = ap (λ (z : HalfbandDesign). z .n) (accepted beta (length before) d h .is)
 
-      go : (p : Outcome) → Agrees p (outcomeOf (Ready d)) → Fills p before Filled.Done after
-      go (Made n s t) a = record { answer = refl; buffer = e ∙ tabulate-below (length before) (tapOf d) t (λ k b. sym (a .2 k (omega (arith, long, a .0)))) }
-      go (Turned why) a = absurd a
+      go : (p : Outcome) → Agrees p (outcomeOf (Ready d)) → Fills p before Verdict.Done after
+      go (Outcome.Designed n s t) a = record { answer = refl; buffer = e ∙ tabulate-below (length before) (tapOf d) t (λ k b. sym (a .2 k (omega (arith, long, a .0)))) }
+      go (Outcome.Refused why) a = absurd a
 
-  pub leaves : (why : Refusal) → halfbandOf beta (length before) ≡ Refused why → Fills (halfbandTapsOf beta (length before)) before (Filled.Refused why) before
+  pub leaves : (why : Refusal) → halfbandOf beta (length before) ≡ Refused why → Fills (halfbandTapsOf beta (length before)) before (Verdict.Refused why) before
   leaves why h = go (halfbandTapsOf beta (length before)) (agree-on (Refused why) h)
     where
-      go : (p : Outcome) → Agrees p (Turned why) → Fills p before (Filled.Refused why) before
-      go (Made n s t) a = absurd a
-      go (Turned other) a = record { answer = ap Filled.Refused (sym a); buffer = refl }
+      go : (p : Outcome) → Agrees p (Outcome.Refused why) → Fills p before (Verdict.Refused why) before
+      go (Outcome.Designed n s t) a = absurd a
+      go (Outcome.Refused other) a = record { answer = ap Verdict.Refused (sym a); buffer = refl }

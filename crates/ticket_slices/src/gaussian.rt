@@ -1,13 +1,13 @@
 // The Gaussian pulse into a buffer.
-use fir_lowpass::lowpass::Filled;
 use fir_gaussian::gaussian_design::GaussianDesigned;
 use fir_gaussian::gaussian_design::fitted;
+use verdict::Verdict;
 ghost use lib.ListN.{length};
 ghost use Rattle.fir_gaussian.specs.Gaussian.{gaussianOf, fittedOf, outcomeOf};
-ghost use Rattle.fir_lowpass.specs.Outcome.{Fills};
+ghost use Rattle.verdict.specs.Outcome.{Fills};
 
 // Fills the buffer, which must have span sps + 1 elements; refused as `fitted`, with the buffer as it came. Example: bt 0.5, 8 samples and a span of 4 make 33 taps.
-pub fn gaussian(bt: f64, sps: u64, span: u64, taps: &mut [f64]) -> Filled
+pub fn gaussian(bt: f64, sps: u64, span: u64, taps: &mut [f64]) -> Verdict
     ensures { λ r. ⌜ Fills (outcomeOf (fittedOf (gaussianOf bt sps span) (length (now (taps .entry))))) (now (taps .entry)) r (now (taps .exit)) ⌝ }
 {
     let n = taps.len();
@@ -18,8 +18,8 @@ pub fn gaussian(bt: f64, sps: u64, span: u64, taps: &mut [f64]) -> Filled
             for i in 0..n {
                 taps[i] = g.tap(i as u64);
             }
-            Filled::Done
+            Verdict::Done
         }
-        GaussianDesigned::Refused(why) => Filled::Refused(why),
+        GaussianDesigned::Refused(why) => Verdict::Refused(why),
     }
 }

@@ -1,14 +1,14 @@
 // A half-band into a buffer.
-use fir_lowpass::lowpass::Filled;
 use fir_halfband::HalfbandDesign;
 use fir_halfband::HalfbandDesigned;
 use fir_halfband::kept_tap;
+use verdict::Verdict;
 ghost use lib.ListN.{length};
-ghost use Rattle.fir_lowpass.specs.Outcome.{Fills};
+ghost use Rattle.verdict.specs.Outcome.{Fills};
 ghost use Rattle.fir_halfband.specs.Halfband.{halfbandTapsOf};
 
 // Fills the buffer with the taps of a half-band of as many taps as it has elements; refused as `prepare`, with the buffer as it came. Example: 3 taps with beta 0 are 0.28, 0.44, 0.28, nearly; 5 are refused with 6.
-pub fn halfband_taps(beta: f64, taps: &mut [f64]) -> Filled
+pub fn halfband_taps(beta: f64, taps: &mut [f64]) -> Verdict
     ensures { λ r. ⌜ Fills (halfbandTapsOf beta (length (now (taps .entry)))) (now (taps .entry)) r (now (taps .exit)) ⌝ }
 {
     let n = taps.len();
@@ -22,8 +22,8 @@ pub fn halfband_taps(beta: f64, taps: &mut [f64]) -> Filled
             for k in 0..n {
                 taps[k] = kept_tap(d, i0, &none, k as u64);
             }
-            Filled::Done
+            Verdict::Done
         }
-        HalfbandDesigned::Refused(why) => Filled::Refused(why),
+        HalfbandDesigned::Refused(why) => Verdict::Refused(why),
     }
 }

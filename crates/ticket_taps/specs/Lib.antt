@@ -1,2 +1,1 @@
 pub mod Sources
-pub mod Standing

@@ -1,7 +1,7 @@
 // A design of any kind: its taps one by one, and as the bytes of a buffer. One loop serves every kind, and a quicker one the raw taps of a low-pass that were kept.
-use fir_lowpass::lowpass::Lowpass;
-use fir_halfband::HalfbandDesign;
 use fir_gaussian::gaussian_design::Gaussian;
+use fir_halfband::HalfbandDesign;
+use fir_lowpass::lowpass::Lowpass;
 use fir_rrc::design::Rrc;
 ghost use mathlib.Core.Path.{_≡_};
 ghost use Prim.Native.Nat.{_*_, _/_, _≤_};
@@ -14,6 +14,9 @@ ghost use Rattle.ticket_taps.specs.Sources.{tapAt, KeptFor};
 
 // The largest number of taps that a design takes.
 const TAP_LIMIT: u64 = 16777216;
+
+// How many raw taps an export keeps while it designs, so that each is worked out once: 8 kilobytes.
+pub const KEPT: usize = 1024;
 
 // A design of any kind, with the series at its beta where it has one.
 pub enum Source {

@@ -1,1 +1,5 @@
 pub mod Report
+pub mod Outcome
+pub mod OutcomeLaws
+pub mod Counted
+pub mod Reports

@@ -1,8 +1,10 @@
-// Why a ticket is turned down, and what the caller hears of it.
+// What comes of a ticket: done or refused, why it is refused by number, and what the caller hears of it. Every crate
+// that judges something rests on these words. No function here has a `requires`.
 ghost use mathlib.Core.Path.{_≡_};
 ghost use Rattle.verdict.specs.Report.{told, reportOf, acceptedOf};
+ghost use Rattle.verdict.specs.Reports.{lengthReport};
 
-// A refusal is a shape with its number, so that a new number needs no new shape.
+// Why a ticket is refused: a shape with its number, so that a new number needs no new shape.
 pub enum Refusal {
     // The number alone.
     Plain(u32),
@@ -14,6 +16,18 @@ pub enum Refusal {
     Cap(u64, u64),
     // 11: an element that a conversion can't take: its index; smallest, largest and offered value.
     Element(u64, f64, f64, f64),
+}
+
+// Done, or why not: a buffer filled or as it came, a conversion ended or stopped, a judgement passed or not.
+pub enum Verdict {
+    Done,
+    Refused(Refusal),
+}
+
+// How many taps, or why not.
+pub enum Length {
+    Taps(u64),
+    Refused(Refusal),
 }
 
 // What an export answers, for acceptance and refusal alike; a field that does not apply is 0.
@@ -104,5 +118,15 @@ pub fn accepted(count: u64, value: f64) -> Report
         index: 0,
         count: count,
         value: value,
+    }
+}
+
+// What is told of a number of taps, as the count; of a refusal what `refused` tells.
+pub fn told_length(length: Length) -> Report
+    ensures { λ r. ⌜ r ≡ lengthReport length ⌝ }
+{
+    match length {
+        Length::Taps(n) => accepted(n, 0.0),
+        Length::Refused(why) => refused(why),
     }
 }

@@ -9,7 +9,7 @@ use lib.ListN.{length, set}
 use lib.Ieee.{Float}
 use Rattle.laws.specs.Filled.{filled, fill-none, fill-more, fill-all, length-filled}
 use Rattle.verdict.specs.declared.Refusal.the-variants.{Plain}
-use Rattle.fir_lowpass.specs.declared.lowpass.Filled.the-variants as Filled
+use Rattle.verdict.specs.declared.Verdict.the-variants as Verdict
 use Rattle.win_sampled.specs.declared.shape.Shape.{Shape}
 use Rattle.win_sampled.specs.declared.shape.Symmetry.{Symmetry}
 use Rattle.win_sampled.specs.Shapes.{shapeTaken, normOf, divisorOf, sampleAt, FillsWindow}
@@ -36,14 +36,14 @@ module _ {A : Type 0} {code : Float → A} {shape : Shape} {before : List A} whe
       fill-next l e = record { within = omega arith; stands = rw (e, f .stands) (fill-more i (elementAt code shape i0 d) before l) }
 
       -- at the end, the test having told that the shape is taken; i0 and d are the definition's
-      pub fill-done : {symmetry : Symmetry} {taken : Bool} → taken ≡ shapeTaken shape → not taken ≡ false → i0 ≡ normOf shape → d ≡ divisorOf symmetry (length before) → length before ≤ i → FillsWindow code shape symmetry before Filled.Done now
+      pub fill-done : {symmetry : Symmetry} {taken : Bool} → taken ≡ shapeTaken shape → not taken ≡ false → i0 ≡ normOf shape → d ≡ divisorOf symmetry (length before) → length before ≤ i → FillsWindow code shape symmetry before Verdict.Done now
       fill-done {taken = taken} r t n e l =
           let takes : shapeTaken shape ≡ true = sym r ∙ not-false taken t in
           let end : i ≡ length before = omega arith in
           record { answer = rw takes; buffer = f .stands ∙ fill-all i (elementAt code shape i0 d) before l ∙ sym (rw (takes, ← n, ← e, ← end)) }
 
   -- at a refusal, the test having told that the shape isn't taken
-  pub fill-refused : {symmetry : Symmetry} {taken : Bool} → taken ≡ shapeTaken shape → not taken ≡ true → FillsWindow code shape symmetry before (Filled.Refused (Plain 4)) before
+  pub fill-refused : {symmetry : Symmetry} {taken : Bool} → taken ≡ shapeTaken shape → not taken ≡ true → FillsWindow code shape symmetry before (Verdict.Refused (Plain 4)) before
   fill-refused {taken = taken} r t =
       let refuses : shapeTaken shape ≡ false = sym r ∙ not-true taken t in
       record { answer = rw refuses; buffer = rw refuses }

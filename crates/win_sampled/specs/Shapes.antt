@@ -15,8 +15,8 @@ use Rattle.math_trig.specs.Trig.{cosOf}
 use Rattle.math_bessel.specs.Series.{seriesOf}
 use Rattle.verdict.specs.declared.Refusal.the-variants.{Plain}
 use Rattle.fir_sinc.specs.Windows.{angle, kaiserRadicand, kaiserArgument, kaiserValue, kaiserAt}
-use Rattle.fir_lowpass.specs.declared.lowpass.Filled.{Filled}
-use Rattle.fir_lowpass.specs.declared.lowpass.Filled.the-variants as Filled
+use Rattle.verdict.specs.declared.Verdict.{Verdict}
+use Rattle.verdict.specs.declared.Verdict.the-variants as Verdict
 use Rattle.win_sampled.specs.declared.shape.Shape.{Shape}
 use Rattle.win_sampled.specs.declared.shape.Shape.the-variants.{Hann, BlackmanHarris, Kaiser}
 use Rattle.win_sampled.specs.declared.shape.Symmetry.{Symmetry}
@@ -81,6 +81,6 @@ abbrev pub windowAt : Shape → Symmetry → ℕ → ℕ → Float
 windowAt shape symmetry n i = sampleAt shape (normOf shape) (divisorOf symmetry n) i
 
 -- what the answer and the buffer are afterwards, each sample through `code`; 4 comes for an empty buffer too
-pub record FillsWindow {A : Type 0} (code : Float → A) (shape : Shape) (symmetry : Symmetry) (before : List A) (r : Filled) (after : List A) : Type 0 where
-  pub answer : r ≡ cond (shapeTaken shape) Filled.Done (Filled.Refused (Plain 4))
+pub record FillsWindow {A : Type 0} (code : Float → A) (shape : Shape) (symmetry : Symmetry) (before : List A) (r : Verdict) (after : List A) : Type 0 where
+  pub answer : r ≡ cond (shapeTaken shape) Verdict.Done (Verdict.Refused (Plain 4))
   pub buffer : after ≡ cond (shapeTaken shape) (tabulate (length before) (λ i. code (windowAt shape symmetry (length before) i))) before

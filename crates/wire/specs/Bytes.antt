@@ -51,10 +51,6 @@ floatAt d at = floatOf (take 8 (drop at d))
 abbrev pub floatsIn : ℕ → List ℕ → List Float
 floatsIn n d = tabulate n (λ i. floatAt d (8 * i))
 
--- the f64 in the eight bytes from `at` on; 0 where they aren't all there
-unfoldable pub getOf : List ℕ → ℕ → Float
-getOf d at = cond (leb (at + 8) (length d)) (floatAt d at) (ofBits binary64 0)
-
 -- ---- the same of an f32, four bytes
 -- a NaN has the pattern 7FC00000
 abbrev pub singleBytes : Float → List ℕ
@@ -68,6 +64,3 @@ singleAt d at = ofBits binary32 (numberOf (take 4 (drop at d)))
 
 abbrev pub singlesIn : ℕ → List ℕ → List Float
 singlesIn n d = tabulate n (λ i. singleAt d (4 * i))
-
-unfoldable pub getSingleOf : List ℕ → ℕ → Float
-getSingleOf d at = cond (leb (at + 4) (length d)) (singleAt d at) (ofBits binary32 0)

@@ -2,3 +2,6 @@ pub mod Bytes
 pub mod Laws
 pub mod Signed
 pub mod Read
+pub mod Writes
+pub mod WritesLaws
+pub mod WrittenPrefix

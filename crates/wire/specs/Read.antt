@@ -16,8 +16,8 @@ use Rattle.laws.specs.Numbers.{lt-or-le}
 use Rattle.laws.specs.Tests.{fails, is-nan}
 use Rattle.laws.specs.Chunks.{chunks, length-chunks}
 use Rattle.laws.specs.Filled.{tabulate, tabulate-below}
-use Rattle.wire.specs.Bytes.{bytesOf, floatBytes, numberOf, joined, joinedFour, floatOf, floatAt, floatsIn, getOf, singleAt, getSingleOf}
-use Rattle.wire.specs.Laws.{length-bytes, there, missing}
+use Rattle.wire.specs.Bytes.{bytesOf, floatBytes, numberOf, joined, joinedFour, floatOf, floatAt, floatsIn}
+use Rattle.wire.specs.Laws.{length-bytes}
 
 -- ---- a number
 rejoined : (n : ℕ) → n % 256 + 256 * (n / 256) ≡ n
@@ -98,24 +98,6 @@ module _ (d : List ℕ) (at : ℕ) where
 
 pub eight : (d : List ℕ) (at : ℕ) → at + 8 ≤ length d → joined (getD d at 0) (getD d (at + 1) 0) (getD d (at + 2) 0) (getD d (at + 3) 0) (getD d (at + 4) 0) (getD d (at + 5) 0) (getD d (at + 6) 0) (getD d (at + 7) 0) ≡ numberOf (take 8 (drop at d))
 eight d at h = omega (arith, four-more d at 4 (omega arith), simp add-assoc at (four d (at + 4) (omega arith)))
-
--- where the bytes are all there, and where not
-module _ (d : List ℕ) (at : ℕ) where
-  pub get-fits : at + 8 ≤ length d → getOf d at ≡ floatAt d at
-  unfolding getOf
-  get-fits = there 8 d at (floatAt d at) (ofBits binary64 0)
-
-  pub get-short : length d < at + 8 → getOf d at ≡ ofBits binary64 0
-  unfolding getOf
-  get-short = missing 8 d at (floatAt d at) (ofBits binary64 0)
-
-  pub single-fits : at + 4 ≤ length d → getSingleOf d at ≡ singleAt d at
-  unfolding getSingleOf
-  single-fits = there 4 d at (singleAt d at) (ofBits binary32 0)
-
-  pub single-short : length d < at + 4 → getSingleOf d at ≡ ofBits binary32 0
-  unfolding getSingleOf
-  single-short = missing 4 d at (singleAt d at) (ofBits binary32 0)
 
 -- ---- the test for a NaN's pattern, in any format
 module _ (f : Format) (n : ℕ) where

@@ -4,7 +4,7 @@ ghost use Prim.Native.Nat.{_+_, _≤_, _%_};
 ghost use lib.ListN.{length};
 ghost use lib.Seq.{sets};
 ghost use lib.Ieee.{binary32, binary64, toBits, ofBits};
-ghost use Rattle.wire.specs.Bytes.{bytesOf, putOf, twosOf, joined, joinedFour, getOf, getSingleOf};
+ghost use Rattle.wire.specs.Bytes.{bytesOf, putOf, twosOf, joined, joinedFour};
 
 // The pattern that every NaN is written as.
 const NAN: u64 = 0x7FF8_0000_0000_0000;
@@ -92,7 +92,7 @@ pub fn float_of(n: u64) -> f64
     }
 }
 
-// Eight bytes as a number, the lowest first. They are parameters, so that each is known to be below 256, and so that a loop whose places are proved reads without the tests of `get_f64`.
+// Eight bytes as a number, the lowest first. They are parameters, so that each is known to be below 256; a caller reads them at proved places, without a test.
 pub fn join(a: u8, b: u8, c: u8, d: u8, e: u8, f: u8, g: u8, h: u8) -> u64
     ensures { λ r. ⌜ r ≡ joined a b c d e f g h ⌝ }
 {
@@ -101,60 +101,11 @@ pub fn join(a: u8, b: u8, c: u8, d: u8, e: u8, f: u8, g: u8, h: u8) -> u64
     x + 4294967296 * y
 }
 
-// The f64 in the eight bytes from `at` on; 0 where they aren't all there.
-pub fn get_f64(src: &[u8], at: usize) -> f64
-    ensures { λ r. ⌜ r ≡ getOf (now (src .entry)) at ⌝ }
-{
-    let len = src.len();
-    if len < at {
-        return 0.0;
-    }
-    if len - at < 8 {
-        return 0.0;
-    }
-    let n = join(
-        src[at],
-        src[at + 1],
-        src[at + 2],
-        src[at + 3],
-        src[at + 4],
-        src[at + 5],
-        src[at + 6],
-        src[at + 7],
-    );
-    float_of(n)
-}
-
-// The f32 with the pattern n; a NaN's is told by a test first.
-fn single_of(n: u32) -> f32
-    ensures { λ r. ⌜ r ≡ ofBits binary32 n ⌝ }
-{
-    if n % 2147483648 > 2139095040 {
-        0.0f32 / 0.0f32
-    } else {
-        f32::from_bits(n)
-    }
-}
-
 // Four bytes as a number, the lowest first.
 pub fn join_four(a: u8, b: u8, c: u8, d: u8) -> u32
     ensures { λ r. ⌜ r ≡ joinedFour a b c d ⌝ }
 {
     (a as u32) + 256 * (b as u32) + 65536 * (c as u32) + 16777216 * (d as u32)
-}
-
-// The f32 in the four bytes from `at` on; 0 where they aren't all there.
-pub fn get_f32(src: &[u8], at: usize) -> f32
-    ensures { λ r. ⌜ r ≡ getSingleOf (now (src .entry)) at ⌝ }
-{
-    let len = src.len();
-    if len < at {
-        return 0.0f32;
-    }
-    if len - at < 4 {
-        return 0.0f32;
-    }
-    single_of(join_four(src[at], src[at + 1], src[at + 2], src[at + 3]))
 }
 
 // The f64 that the f32 with the pattern n is. One test tells a NaN's pattern for the reading and for the widening.

@@ -7,11 +7,11 @@ use lib.Ieee.{Float, toUnsigned, ofBits, ofInt}
 use Rattle.laws.specs.Binary64.{_⊖_, _⊗_, _⊘_, whole}
 use Rattle.math_round.specs.Whole.{ceilOf}
 use Rattle.fir_length.specs.Kaiser.{estimate}
-use Rattle.fir_length.specs.declared.order.Length.the-variants.{Taps}
+use Rattle.verdict.specs.declared.Length.the-variants.{Taps}
 use Rattle.fir_channelizer.specs.Channelizer.{countTaken, tapsIn, channelizerTapsOf}
 use Rattle.fir_channelizer.specs.ChannelizerLaws.{taps-by-edges, taps-no-channels}
-use Rattle.fir_channelizer.specs.declared.Checked.{Checked}
-use Rattle.fir_channelizer.specs.declared.Checked.the-variants.{Fine, Refused}
+use Rattle.verdict.specs.declared.Verdict.{Verdict}
+use Rattle.verdict.specs.declared.Verdict.the-variants.{Done, Refused}
 use Rattle.fir_channelizer.proofs.channelizer_taps.Statement.{statement}
 use Rattle.fir_channelizer.proofs.channelizer_taps.Tie as tie
 
@@ -24,11 +24,11 @@ number c =
     estimate (a .attenuation) (whole 2 ⊗ (a .stopband ⊖ a .passband) ⊘ whole (a .channels))
 
 -- the definition where the channels were taken, by what came of the edges
-answer : (c : tie.After-check-edges) (k : Checked) → c .check-edges .result ≡ k → channelizerTapsOf (start c .args .channels) (start c .args .passband) (start c .args .stopband) (start c .args .attenuation) ≡ tapsIn k (number c)
+answer : (c : tie.After-check-edges) (k : Verdict) → c .check-edges .result ≡ k → channelizerTapsOf (start c .args .channels) (start c .args .passband) (start c .args .stopband) (start c .args .attenuation) ≡ tapsIn k (number c)
 answer c k e =
     let a = start c .args in
     taps-by-edges (a .channels) (a .passband) (a .stopband) (a .attenuation) (sym (c .before .before .takes-channels .ensures) ∙ not-false _ (c .before .if1 .left))
-    ∙ ap (λ (z : Checked). tapsIn z (number c)) (sym (c .check-edges .ensures) ∙ e)
+    ∙ ap (λ (z : Verdict). tapsIn z (number c)) (sym (c .check-edges .ensures) ∙ e)
 
 -- the estimate, from the two calls' contracts
 estimated : (c : tie.After-taps-estimate) → c .taps-estimate .result ≡ number (c .before .before .before .before)
@@ -74,14 +74,14 @@ returns-2 c =
     let t = c .before .before .before .before in
     let k = t .before .before .before .before in
     let taken : countTaken (number k) ≡ true = ap countTaken (sym (estimated t)) ∙ sym (c .before .before .before .takes-estimate .ensures) ∙ c .before .before .if2 .taken in
-    ap Taps (c .to-count .ensures ∙ ap (λ (z : Float). toUnsigned 64 z) (c .before .ceil .ensures ∙ ap ceilOf (estimated t))) ∙ sym (answer k Fine (t .before .before .enum-told .given .1) ∙ rw taken)
+    ap Taps (c .to-count .ensures ∙ ap (λ (z : Float). toUnsigned 64 z) (c .before .ceil .ensures ∙ ap ceilOf (estimated t))) ∙ sym (answer k Done (t .before .before .enum-told .given .1) ∙ rw taken)
 
 returns-3 : tie.Need-returns-3
 returns-3 c =
     let t = c .before .before in
     let k = t .before .before .before .before in
     let left : countTaken (number k) ≡ false = ap countTaken (sym (estimated t)) ∙ sym (c .before .takes-estimate .ensures) ∙ c .if2 .left in
-    sym (answer k Fine (t .before .before .enum-told .given .1) ∙ rw left)
+    sym (answer k Done (t .before .before .enum-told .given .1) ∙ rw left)
 
 returns-4 : tie.Need-returns-4
 returns-4 c =

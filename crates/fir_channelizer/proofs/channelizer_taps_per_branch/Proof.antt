@@ -3,7 +3,7 @@ use mathlib.Core.Path.{sym, ap, _∙_}
 use Prim.Native.Nat.{_≤_}
 use native.Mathlib.Omega.{arith}
 use borrow.Author.Needs.{needs}
-use Rattle.fir_length.specs.declared.order.Length.the-variants.{Taps}
+use Rattle.verdict.specs.declared.Length.the-variants.{Taps}
 use Rattle.fir_channelizer.specs.Channelizer.{branchOf}
 use Rattle.fir_channelizer.specs.ChannelizerLaws.{channels-are, taps-channels, upward-exact, upward-more, quotient-most}
 use Rattle.fir_channelizer.proofs.channelizer_taps_per_branch.Statement.{statement}

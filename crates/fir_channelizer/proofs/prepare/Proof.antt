@@ -12,8 +12,8 @@ use Rattle.fir_lowpass.specs.LowpassLaws.{prepares-as}
 use Rattle.fir_sinc.specs.declared.window.Window.the-variants.{Kaiser}
 use Rattle.fir_channelizer.specs.Channelizer.{channelsTaken, branchTaken, edgesOf, lowpassIn, channelizerLowpassOf}
 use Rattle.fir_channelizer.specs.ChannelizerLaws.{prototypeOf, product-most, by-edges, no-branch, no-channels, refuses}
-use Rattle.fir_channelizer.specs.declared.Checked.{Checked}
-use Rattle.fir_channelizer.specs.declared.Checked.the-variants.{Fine, Refused}
+use Rattle.verdict.specs.declared.Verdict.{Verdict}
+use Rattle.verdict.specs.declared.Verdict.the-variants.{Done, Refused}
 use Rattle.fir_channelizer.proofs.prepare.Statement.{statement}
 use Rattle.fir_channelizer.proofs.prepare.Tie as tie
 
@@ -28,11 +28,11 @@ past2 c = sym (c .before .takes-branch .ensures) ∙ not-false _ (c .if2 .left)
 abbrev start : tie.Else2 → tie.Start
 start c = c .before .before .before .before .before
 
-answer : (c : tie.Else2) (k : Checked) → edgesOf (start c .args .passband) (start c .args .stopband) (start c .args .attenuation) ≡ k → channelizerLowpassOf (start c .args .channels) (start c .args .branch) (start c .args .passband) (start c .args .stopband) (start c .args .attenuation) ≡ lowpassIn k (prototypeOf (start c .args .channels) (start c .args .branch) (start c .args .passband) (start c .args .stopband) (start c .args .attenuation))
+answer : (c : tie.Else2) (k : Verdict) → edgesOf (start c .args .passband) (start c .args .stopband) (start c .args .attenuation) ≡ k → channelizerLowpassOf (start c .args .channels) (start c .args .branch) (start c .args .passband) (start c .args .stopband) (start c .args .attenuation) ≡ lowpassIn k (prototypeOf (start c .args .channels) (start c .args .branch) (start c .args .passband) (start c .args .stopband) (start c .args .attenuation))
 answer c k e =
     let a = start c .args in
     by-edges (a .channels) (a .branch) (a .passband) (a .stopband) (a .attenuation) (past1 (c .before .before)) (past2 c)
-    ∙ ap (λ (z : Checked). lowpassIn z (prototypeOf (a .channels) (a .branch) (a .passband) (a .stopband) (a .attenuation))) e
+    ∙ ap (λ (z : Verdict). lowpassIn z (prototypeOf (a .channels) (a .branch) (a .passband) (a .stopband) (a .attenuation))) e
 
 takes-channels-requires : tie.Need-takes-channels-requires
 takes-channels-requires c κs = search needs
@@ -101,7 +101,7 @@ returns-3 c =
     prepares-as
     (ap (λ (z : Float). lowpassOf ((a .passband ⊕ a .stopband) ⊘ (whole 2 ⊗ z)) (whole 1) (Kaiser (b .kaiser-beta .result)) n) (b .before .nearest-u64-to-f64 .ensures)
     ∙ ap (λ (z : Float). lowpassOf ((a .passband ⊕ a .stopband) ⊘ (whole 2 ⊗ whole (a .channels))) (whole 1) (Kaiser z) n) (b .kaiser-beta .ensures)
-    ∙ sym (answer e2 Fine (sym (k .check-edges .ensures) ∙ b .before .before .enum-told .given .1)))
+    ∙ sym (answer e2 Done (sym (k .check-edges .ensures) ∙ b .before .before .enum-told .given .1)))
     (c .before .before .prepare .ensures)
 
 returns-4 : tie.Need-returns-4

@@ -8,7 +8,7 @@ use lib.ListN.{length}
 use lib.Seq.{sets}
 use lib.Ieee.{Float}
 use Rattle.laws.specs.Filled.{tabulate, filled, fill-none, fill-all, length-filled}
-use Rattle.fir_lowpass.specs.OutcomeLaws.{fills, leaves}
+use Rattle.verdict.specs.OutcomeLaws.{fills, leaves}
 use Rattle.iir_biquad.specs.Biquad.{biquadOf}
 use Rattle.iir_butterworth.specs.Butterworth.{qualityOf, coefAt}
 use Rattle.iir_butterworth.specs.SectionLaws.{section-stored, Right, right, turned}

@@ -6,7 +6,7 @@ use native.Mathlib.Omega.{arith}
 use borrow.Author.Needs.{needs}
 use borrow.Author.Tests.{not-true, not-false, eq-eqb, ne-eqb}
 use lib.Ieee.{ofBits, ofInt}
-use Rattle.fir_lowpass.specs.Outcome.{answered}
+use Rattle.verdict.specs.Outcome.{answered}
 use Rattle.iir_butterworth.specs.Butterworth.{responseTaken, orderTaken}
 use Rattle.iir_butterworth.specs.SectionLaws.{order-is, no-response, no-order, no-length, no-centre, made}
 use Rattle.iir_butterworth.proofs.judge.Statement.{statement}

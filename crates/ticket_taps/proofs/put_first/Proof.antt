@@ -6,9 +6,10 @@ use Rattle.laws.specs.Chunks.{chunked}
 use Rattle.wire.specs.Bytes.{floatBytes}
 use Rattle.ticket_taps.specs.declared.Source.{Source}
 use Rattle.ticket_taps.specs.Sources.{tapAt, KeptFor}
-use Rattle.ticket_taps.specs.Standing.{at-first}
+use Rattle.wire.specs.WrittenPrefix.{at-first}
 use Rattle.ticket_taps.proofs.put_first.Statement.{statement}
 use Rattle.ticket_taps.proofs.put_first.Tie as tie
+use lib.Ieee.{binary64, toBits}
 
 enum-known-source : tie.Need-enum-known-source
 enum-known-source c = search needs
@@ -29,7 +30,7 @@ returns c =
 returns-2 : tie.Need-returns-2
 returns-2 c =
     let a = c .before .before .before .args in
-    (omega arith, at-first (KeptFor (a .source) (a .raws .now)) (tapAt (a .source)) (a .out .now) .stands)
+    (omega arith, at-first 8 (KeptFor (a .source) (a .raws .now)) (λ k. toBits binary64 (tapAt (a .source) k)) (a .out .now) .stands)
 
 pub put-first-spec : {M : Type 1} → statement M
 put-first-spec =

@@ -1,16 +1,22 @@
 -- `ticket_taps::put_taps` meets its contract. The loop's invariant: where the first taps stood in a buffer that came, as many as the loop began with, the first i stand in it now. Assumes nothing.
-use mathlib.Core.Path.{_≡_, refl, _∙_}
+use mathlib.Core.Path.{_≡_, refl, ap, _∙_}
 use mathlib.Core.List.{List}
 use Prim.Native.Nat.{ℕ, _*_, _-_, _/_, _≤_}
 use native.Mathlib.Omega.{arith}
 use lib.ListN.{length}
+use lib.Ieee.{Float, binary64, toBits}
+use Rattle.ticket_taps.specs.declared.Source.{Source}
 use Rattle.ticket_taps.specs.Sources.{tapAt, KeptFor}
-use Rattle.ticket_taps.specs.Standing.{Standing, one-more}
+use Rattle.wire.specs.WrittenPrefix.{WrittenPrefix, one-more}
 use Rattle.ticket_taps.proofs.put_taps.Statement.{statement}
 use Rattle.ticket_taps.proofs.put_taps.Tie as tie
 
+-- the pattern of tap k
+abbrev tapBits : Source → ℕ → ℕ
+tapBits source k = toBits binary64 (tapAt source k)
+
 abbrev Inv-loop : tie.InvT-loop
-Inv-loop source raws out₀ n i₀ out i = (i ≤ n) × (length out ≡ length out₀) × ((came : List ℕ) → 8 * n ≤ length came → Standing (KeptFor source raws) (tapAt source) came i₀ out₀ → Standing (KeptFor source raws) (tapAt source) came i out)
+Inv-loop source raws out₀ n i₀ out i = (i ≤ n) × (length out ≡ length out₀) × ((came : List ℕ) → 8 * n ≤ length came → WrittenPrefix 8 (KeptFor source raws) (tapBits source) came i₀ out₀ → WrittenPrefix 8 (KeptFor source raws) (tapBits source) came i out)
 
 abbrev μ-loop : tie.MeasureT-loop
 μ-loop source raws out₀ n i₀ out i = n - i
@@ -42,7 +48,7 @@ loop-again : tie.Need-loop-again Inv-loop μ-loop
 loop-again c =
     let at = c .before .before .before .before .before .before in
     let same : length (c .before .before .put-f64 .last .0) ≡ length (at .loop .out) = omega arith in
-    (omega arith, same ∙ at .loop .inv .1, λ came h s. one-more (at .loop .inv .2 came h s) (omega arith) same (c .before .before .before .before .tap-at .ensures) (c .before .before .put-f64 .ensures))
+    (omega arith, same ∙ at .loop .inv .1, λ came h s. one-more (at .loop .inv .2 came h s) (omega arith) (λ k. ap (λ (x : Float). toBits binary64 x) (c .before .before .before .before .tap-at .ensures k)) (c .before .before .put-f64 .ensures))
 
 same-length : tie.Need-same-length Inv-loop μ-loop
 same-length c = omega arith

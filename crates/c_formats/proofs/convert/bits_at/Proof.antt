@@ -1,10 +1,10 @@
 -- `c_formats::convert::bits_at` meets its contract. Assumes nothing.
-use mathlib.Core.Path.{sym, ap, _∙_}
+use mathlib.Core.Path.{ap, _∙_}
 use Prim.Native.Nat.{ℕ, _*_}
 use native.Mathlib.Omega.{arith}
 use borrow.Author.Needs.{needs}
 use lib.Ieee.{binary64, ofBits}
-use Rattle.wire.specs.Read.{eight, get-fits}
+use Rattle.wire.specs.Read.{eight}
 use Rattle.c_formats.proofs.convert.bits_at.Statement.{statement}
 use Rattle.c_formats.proofs.convert.bits_at.Tie as tie
 
@@ -63,7 +63,7 @@ returns : tie.Need-returns
 returns c =
     let a = c .before .before .before .before .before .before .before .before .before .before .args in
     let at = 8 * a .i in
-    ap (λ (k : ℕ). ofBits binary64 k) (c .join .ensures ∙ eight (a .src .now) at (omega arith)) ∙ sym (get-fits (a .src .now) at (omega arith))
+    ap (λ (k : ℕ). ofBits binary64 k) (c .join .ensures ∙ eight (a .src .now) at (omega arith))
 
 pub bits-at-spec : {M : Type 1} → statement M
 bits-at-spec =

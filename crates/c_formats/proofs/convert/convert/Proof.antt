@@ -4,7 +4,7 @@ use Prim.Native.Nat.{ℕ, _/_, _<_}
 use borrow.Author.Needs.{needs}
 use lib.ListN.{length}
 use lib.Ieee.{ofInt, ofBits}
-use Rattle.c_formats.specs.Reports.{convertedReport}
+use Rattle.verdict.specs.Reports.{doneReport}
 use Rattle.c_formats.specs.Formats.{widthOf}
 use Rattle.c_formats.specs.FormatLaws.{wide}
 use Rattle.c_formats.specs.Conversions.{lengthsOf}
@@ -66,7 +66,7 @@ returns c =
     let a = j .before .before .before .before .args in
     let put = k .put-all .ensures in
     converts (sym (judged j) ∙ k .before .before .enum-told .given .1)
-    (c .accepted .ensures ∙ ap (convertedReport (length (a .src .now) / 8)) (sym (c .before .enum-told2 .given .1) ∙ put .answer)) (put .buffer)
+    (c .accepted .ensures ∙ ap (doneReport (length (a .src .now) / 8)) (sym (c .before .enum-told2 .given .1) ∙ put .answer)) (put .buffer)
 
 same-length-2 : tie.Need-same-length-2
 same-length-2 c = search needs
@@ -78,7 +78,7 @@ returns-2 c =
     let a = j .before .before .before .before .args in
     let put = k .put-all .ensures in
     converts (sym (judged j) ∙ k .before .before .enum-told .given .1)
-    (c .refused .ensures ∙ ap (convertedReport (length (a .src .now) / 8)) (sym (c .before .before .converted .given .1) ∙ put .answer)) (put .buffer)
+    (c .refused .ensures ∙ ap (doneReport (length (a .src .now) / 8)) (sym (c .before .before .converted .given .1) ∙ put .answer)) (put .buffer)
 
 returns-3 : tie.Need-returns-3
 returns-3 c =

@@ -4,7 +4,7 @@ use mathlib.Core.List.{List}
 use Prim.Native.Nat.{ℕ, _*_, _/_}
 use borrow.Author.Needs.{needs}
 use lib.ListN.{length}
-use Rattle.fmt_q15.specs.declared.q15.Converted.{Converted}
+use Rattle.verdict.specs.declared.Verdict.{Verdict}
 use Rattle.c_formats.specs.declared.element.Format.{Format}
 use Rattle.c_formats.specs.Formats.{widthOf}
 use Rattle.c_formats.specs.Conversions.{ConvertsWhole}
@@ -15,7 +15,7 @@ use Rattle.c_formats.proofs.convert.put_all.Tie as tie
 room : {f g : Format} (out src : List ℕ) → f ≡ g → length out ≡ widthOf f * (length src / 8) → length out ≡ widthOf g * (length src / 8)
 room out src e h = subst (λ (f : Format). length out ≡ widthOf f * (length src / 8)) e h
 
-same : {f g : Format} {s before after : List ℕ} {r : Converted} → f ≡ g → ConvertsWhole g s before r after → ConvertsWhole f s before r after
+same : {f g : Format} {s before after : List ℕ} {r : Verdict} → f ≡ g → ConvertsWhole g s before r after → ConvertsWhole f s before r after
 same {f} {g} {s} {before} {after} {r} e h = subst (λ (z : Format). ConvertsWhole z s before r after) (sym e) h
 
 enum-told : tie.Need-enum-told

@@ -5,9 +5,9 @@ use native.Mathlib.Nat.{mul-le-mul-left, mul-suc}
 use native.Mathlib.Omega.{arith}
 use borrow.Author.Needs.{needs}
 use lib.ListN.{length}
-use Rattle.wire.specs.Bytes.{getOf, putOf}
+use Rattle.wire.specs.Bytes.{floatAt, putOf}
 use Rattle.c_formats.specs.Formats.{widthOf, encodedOf}
-use Rattle.c_formats.specs.ConversionLaws.{Reached, at-first, at-end, same-bytes, one-more, one-refused}
+use Rattle.c_formats.specs.ConversionLaws.{Reached, at-first, at-end, one-more, one-refused}
 use Rattle.c_formats.proofs.convert.put_elements.Statement.{statement}
 use Rattle.c_formats.proofs.convert.put_elements.Tie as tie
 
@@ -19,13 +19,13 @@ abbrev μ-loop : tie.MeasureT-loop
 
 -- the destination stays as long as it came
 same-as : (at : tie.At-loop Inv-loop μ-loop) → length (at .loop .out) ≡ length (at .before .before .before .before .args .out .now)
-same-as at = same-bytes (at .loop .inv .1) (at .before .before .before .before .pre .1) (at .loop .inv .0)
+same-as at = at .loop .inv .1 .prefix .size
 
 -- what comes of the element that is read
 outcome : (c : tie.After-encode Inv-loop μ-loop) →
     let at = c .before .before .before .before in
     let a = at .before .before .before .before .args in
-    c .encode .result ≡ encodedOf (a .format) (at .loop .i) (getOf (a .src .now) (8 * at .loop .i))
+    c .encode .result ≡ encodedOf (a .format) (at .loop .i) (floatAt (a .src .now) (8 * at .loop .i))
 outcome c =
     let at = c .before .before .before .before in
     c .encode .ensures ∙ ap (encodedOf (at .before .before .before .before .args .format) (at .loop .i)) (c .before .float-of .ensures ∙ c .before .before .bits-at .ensures)

@@ -4,13 +4,13 @@ use Prim.Native.Nat.{_*_, _-_, _≤_}
 use native.Mathlib.Omega.{arith}
 use borrow.Author.Needs.{needs}
 use lib.Ieee.{Float, binary32, toBits}
-use Rattle.wire.specs.Bytes.{getOf}
+use Rattle.wire.specs.Bytes.{floatAt}
 use Rattle.fmt_f32.specs.Single.{singleOf}
 use Rattle.c_formats.specs.declared.element.Format.the-variants.{Single}
 use Rattle.c_formats.specs.declared.element.Encoded.the-variants.{Pattern}
 use Rattle.c_formats.specs.Formats.{widthOf, patternOf}
 use Rattle.c_formats.specs.FormatLaws.{encoded-single}
-use Rattle.c_formats.specs.ConversionLaws.{Reached, at-first, at-end, same-bytes, one-more}
+use Rattle.c_formats.specs.ConversionLaws.{Reached, at-first, at-end, one-more}
 use Rattle.c_formats.proofs.convert.put_singles.Statement.{statement}
 use Rattle.c_formats.proofs.convert.put_singles.Tie as tie
 
@@ -40,7 +40,7 @@ unfolding widthOf
 put-four-requires c κs =
     let at = c .before .before .before .before in
     let start = at .before .before .before in
-    omega (arith, same-bytes (at .loop .inv .1) (start .pre .1) (at .loop .inv .0), start .pre .1)
+    omega (arith, at .loop .inv .1 .prefix .size, start .pre .1)
 
 add-i : tie.Need-add-i Inv-loop μ-loop
 add-i c = omega arith
@@ -55,12 +55,12 @@ loop-again c =
     let load = k .before in
     let at = load .before .before in
     let start = at .before .before .before in
-    let x = getOf (start .args .src .now) (8 * at .loop .i) in
+    let x = floatAt (start .args .src .now) (8 * at .loop .i) in
     let p : k .pattern-of-bits .result ≡ patternOf Single x = k .pattern-of-bits .ensures ∙ ap (λ (z : Float). toBits binary32 (singleOf z)) (load .bits-at .ensures) in
     (omega arith, one-more (at .loop .inv .1) (start .pre .1) (load .before .loop-test .taken) (sym (encoded-single (at .loop .i) x) ∙ ap Pattern (sym p)) (c .before .before .put-four .ensures))
 
 same-length : tie.Need-same-length Inv-loop μ-loop
-same-length c = let at = c .before in same-bytes (at .loop .inv .1) (at .before .before .before .pre .1) (at .loop .inv .0)
+same-length c = let at = c .before in at .loop .inv .1 .prefix .size
 
 returns : tie.Need-returns Inv-loop μ-loop
 returns c = at-end (c .before .loop .inv .1) (omega arith)

@@ -4,11 +4,12 @@ use Prim.Native.Nat.{ℕ, _/_}
 use borrow.Author.Needs.{needs}
 use lib.ListN.{length}
 use Rattle.fir_sinc.specs.declared.window.Window.{Window}
-use Rattle.fir_lowpass.specs.Outcome.{Outcome}
+use Rattle.verdict.specs.Outcome.{Outcome}
 use Rattle.fir_lowpass.specs.Lowpass.{lowpassOf, outcomeOf}
 use Rattle.c_lowpass.specs.Lowpass.{lowpassBytes}
-use Rattle.c_lowpass.specs.Counts.{lowpass-count, room}
-use Rattle.c_lowpass.specs.Laws.{leaves, writes-same, leaves-part, fits-lowpass, writes-whole}
+use Rattle.fir_lowpass.specs.LowpassLaws.{lowpass-count}
+use Rattle.wire.specs.WritesLaws.{room, leaves, writes-same, leaves-part, writes-whole}
+use Rattle.c_lowpass.specs.FitsLaws.{fits-lowpass}
 use Rattle.c_lowpass.specs.declared.codes.Coded.{Coded}
 use Rattle.c_lowpass.proofs.lowpass.pel_lowpass.Statement.{statement}
 use Rattle.c_lowpass.proofs.lowpass.pel_lowpass.Tie as tie
@@ -40,7 +41,7 @@ returns c =
     let k = c .before .before .before in
     let start = k .before .before .before .before in
     let known = ap (by-code start) (sym (k .coded .given .1) ∙ k .before .before .window-of .ensures) in
-    writes-same known (leaves-part (len start) (outcome start (k .coded .given .0 .0)) (c .before .if1 .taken) (c .refused .ensures))
+    writes-same known (leaves-part 8 (len start) (outcome start (k .coded .given .0 .0)) (c .before .if1 .taken) (c .refused .ensures))
 
 slice-aggregate-prepare : tie.Need-slice-aggregate-prepare
 slice-aggregate-prepare c = search needs
@@ -74,7 +75,7 @@ returns-2 c =
     let k = p .before .before .before .before in
     let start = k .before .before .before .before in
     let known = ap (by-code start) (sym (k .coded .given .1) ∙ k .before .before .window-of .ensures) in
-    writes-same known (writes-whole (len start) (outcome start (k .coded .given .0 .0)) (p .before .before .if1 .left) (ap outcomeOf (p .prepare .ensures .is)) (c .before .before .write-lowpass .ensures))
+    writes-same known (writes-whole 8 (len start) (outcome start (k .coded .given .0 .0)) (p .before .before .if1 .left) (ap outcomeOf (p .prepare .ensures .is)) (c .before .before .write-lowpass .ensures))
 
 returns-3 : tie.Need-returns-3
 returns-3 c =

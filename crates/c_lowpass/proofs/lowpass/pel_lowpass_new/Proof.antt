@@ -2,7 +2,7 @@
 use mathlib.Core.Path.{sym, ap, _∙_}
 use borrow.Author.Needs.{needs}
 use Rattle.fir_lowpass.specs.Lowpass.{outcomeOf}
-use Rattle.c_lowpass.specs.Reports.{outcomeReport}
+use Rattle.verdict.specs.Reports.{outcomeReport}
 use Rattle.c_lowpass.specs.Lowpass.{lowpassCoded}
 use Rattle.fir_lowpass.specs.declared.lowpass.Designed.{Designed}
 use Rattle.c_lowpass.specs.declared.codes.Coded.{Coded}

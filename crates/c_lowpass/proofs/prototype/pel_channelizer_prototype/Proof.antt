@@ -2,12 +2,13 @@
 use mathlib.Core.Path.{ap}
 use Prim.Native.Nat.{ℕ, _/_}
 use lib.ListN.{length}
-use Rattle.fir_lowpass.specs.Outcome.{Outcome}
+use Rattle.verdict.specs.Outcome.{Outcome}
 use Rattle.fir_lowpass.specs.Lowpass.{outcomeOf}
 use Rattle.fir_lowpass.specs.declared.lowpass.Designed.{Designed}
 use Rattle.fir_channelizer.specs.Channelizer.{channelizerLowpassOf, fittedOf}
-use Rattle.c_lowpass.specs.Counts.{channelizer-count, room}
-use Rattle.c_lowpass.specs.Laws.{leaves-part, fits-lowpass, writes-whole}
+use Rattle.fir_channelizer.specs.ChannelizerLaws.{channelizer-count}
+use Rattle.wire.specs.WritesLaws.{room, leaves-part, writes-whole}
+use Rattle.c_lowpass.specs.FitsLaws.{fits-lowpass}
 use borrow.Author.Needs.{needs}
 use Rattle.c_lowpass.proofs.prototype.pel_channelizer_prototype.Statement.{statement}
 use Rattle.c_lowpass.proofs.prototype.pel_channelizer_prototype.Tie as tie
@@ -31,7 +32,7 @@ refused-requires c κs = search needs
 returns : tie.Need-returns
 returns c =
     let start = c .before .before .before in
-    leaves-part (len start) (outcome start) (c .before .if1 .taken) (c .refused .ensures)
+    leaves-part 8 (len start) (outcome start) (c .before .if1 .taken) (c .refused .ensures)
 
 slice-aggregate-fitted : tie.Need-slice-aggregate-fitted
 slice-aggregate-fitted c = search needs
@@ -55,7 +56,7 @@ returns-2 : tie.Need-returns-2
 returns-2 c =
     let p = c .before .before .before .before .before .before in
     let start = p .before .before .before .before in
-    writes-whole (len start) (outcome start) (p .before .before .if1 .left) (ap outcomeOf (p .fitted .ensures .is)) (c .before .before .write-lowpass .ensures)
+    writes-whole 8 (len start) (outcome start) (p .before .before .if1 .left) (ap outcomeOf (p .fitted .ensures .is)) (c .before .before .write-lowpass .ensures)
 
 pub pel-channelizer-prototype-spec : {M : Type 1} → statement M
 pel-channelizer-prototype-spec =

@@ -1,7 +1,7 @@
 -- `c_lowpass::prototype::pel_channelizer_taps_per_branch` meets its contract. Assumes nothing.
 use mathlib.Core.Path.{ap, _∙_}
 use borrow.Author.Needs.{needs}
-use Rattle.c_lowpass.specs.Reports.{lengthReport}
+use Rattle.verdict.specs.Reports.{lengthReport}
 use Rattle.c_lowpass.proofs.prototype.pel_channelizer_taps_per_branch.Statement.{statement}
 use Rattle.c_lowpass.proofs.prototype.pel_channelizer_taps_per_branch.Tie as tie
 

@@ -2,12 +2,13 @@
 use mathlib.Core.Path.{ap}
 use Prim.Native.Nat.{ℕ, _/_}
 use lib.ListN.{length}
-use Rattle.fir_lowpass.specs.Outcome.{Outcome}
+use Rattle.verdict.specs.Outcome.{Outcome}
 use Rattle.fir_lowpass.specs.Lowpass.{outcomeOf}
 use Rattle.fir_spec.specs.Spec.{specDesignOf}
 use Rattle.c_lowpass.specs.Spec.{specOf}
-use Rattle.c_lowpass.specs.Counts.{spec-count, room}
-use Rattle.c_lowpass.specs.Laws.{leaves-part, fits-lowpass, writes-whole}
+use Rattle.fir_spec.specs.SpecLaws.{spec-count}
+use Rattle.wire.specs.WritesLaws.{room, leaves-part, writes-whole}
+use Rattle.c_lowpass.specs.FitsLaws.{fits-lowpass}
 use borrow.Author.Needs.{needs}
 use Rattle.c_lowpass.proofs.spec.pel_spec_design.Statement.{statement}
 use Rattle.c_lowpass.proofs.spec.pel_spec_design.Tie as tie
@@ -28,7 +29,7 @@ refused-requires c κs = search needs
 returns : tie.Need-returns
 returns c =
     let start = c .before .before .before in
-    leaves-part (len start) (outcome start) (c .before .if1 .taken) (c .refused .ensures)
+    leaves-part 8 (len start) (outcome start) (c .before .if1 .taken) (c .refused .ensures)
 
 slice-aggregate-spec-prepare : tie.Need-slice-aggregate-spec-prepare
 slice-aggregate-spec-prepare c = search needs
@@ -53,7 +54,7 @@ returns-2 : tie.Need-returns-2
 returns-2 c =
     let p = c .before .before .before .before .before .before in
     let start = p .before .before .before .before in
-    writes-whole (len start) (outcome start) (p .before .before .if1 .left) (ap outcomeOf (p .spec-prepare .ensures .is)) (c .before .before .write-lowpass .ensures)
+    writes-whole 8 (len start) (outcome start) (p .before .before .if1 .left) (ap outcomeOf (p .spec-prepare .ensures .is)) (c .before .before .write-lowpass .ensures)
 
 pub pel-spec-design-spec : {M : Type 1} → statement M
 pel-spec-design-spec =

@@ -3,7 +3,7 @@ use mathlib.Core.Path.{ap, _∙_}
 use borrow.Author.Needs.{needs}
 use Rattle.fir_lowpass.specs.Lowpass.{outcomeOf}
 use Rattle.fir_lowpass.specs.declared.lowpass.Designed.{Designed}
-use Rattle.c_lowpass.specs.Reports.{outcomeReport}
+use Rattle.verdict.specs.Reports.{outcomeReport}
 use Rattle.c_lowpass.proofs.spec.pel_spec_lowpass.Statement.{statement}
 use Rattle.c_lowpass.proofs.spec.pel_spec_lowpass.Tie as tie
 

@@ -1,7 +1,7 @@
 -- `c_lowpass::spec::pel_spec_num_taps` meets its contract. Assumes nothing.
 use mathlib.Core.Path.{ap, _∙_}
 use borrow.Author.Needs.{needs}
-use Rattle.c_lowpass.specs.Reports.{lengthReport}
+use Rattle.verdict.specs.Reports.{lengthReport}
 use Rattle.c_lowpass.proofs.spec.pel_spec_num_taps.Statement.{statement}
 use Rattle.c_lowpass.proofs.spec.pel_spec_num_taps.Tie as tie
 

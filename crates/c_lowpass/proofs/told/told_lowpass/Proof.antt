@@ -3,7 +3,7 @@ use mathlib.Core.Path.{sym, ap, _∙_}
 use borrow.Author.Needs.{needs}
 use Rattle.verdict.specs.declared.Report.{Report}
 use Rattle.fir_lowpass.specs.declared.lowpass.Designed.{Designed}
-use Rattle.c_lowpass.specs.Reports.{outcomeReport}
+use Rattle.verdict.specs.Reports.{outcomeReport}
 use Rattle.c_lowpass.specs.Sources.{ofLowpass}
 use Rattle.c_lowpass.proofs.told.told_lowpass.Statement.{statement}
 use Rattle.c_lowpass.proofs.told.told_lowpass.Tie as tie

@@ -7,7 +7,7 @@ use Rattle.laws.specs.Chunks.{chunked}
 use Rattle.wire.specs.Bytes.{floatBytes}
 use Rattle.fir_lowpass.specs.Lowpass.{tapWith, tapOf}
 use Rattle.c_lowpass.specs.Sources.{ofLowpass}
-use Rattle.c_lowpass.specs.Laws.{leaves, fills-room}
+use Rattle.wire.specs.WritesLaws.{leaves, fills-room}
 use borrow.Author.Needs.{needs}
 use Rattle.c_lowpass.proofs.write.write_lowpass.Statement.{statement}
 use Rattle.c_lowpass.proofs.write.write_lowpass.Tie as tie

@@ -1,7 +1,7 @@
 -- `c_math::lengths::pel_halfband_len` meets its contract. Assumes nothing.
 use mathlib.Core.Path.{ap, _∙_}
 use borrow.Author.Needs.{needs}
-use Rattle.c_lowpass.specs.Reports.{lengthReport}
+use Rattle.verdict.specs.Reports.{lengthReport}
 use Rattle.c_math.proofs.lengths.pel_halfband_len.Statement.{statement}
 use Rattle.c_math.proofs.lengths.pel_halfband_len.Tie as tie
 

@@ -2,13 +2,12 @@
 use mathlib.Core.Path.{ap, sym, subst}
 use Prim.Native.Nat.{ℕ, _/_}
 use lib.ListN.{length}
-use Rattle.fir_lowpass.specs.Outcome.{Outcome}
+use Rattle.verdict.specs.Outcome.{Outcome}
 use Rattle.fir_rrc.specs.Rrc.{rrcOf, fittedOf, outcomeOf}
 use Rattle.fir_rrc.specs.declared.design.RrcDesigned.{RrcDesigned}
-use Rattle.c_lowpass.specs.Sources.{Room}
-use Rattle.c_lowpass.specs.Counts.{room}
-use Rattle.c_pulses.specs.Counts.{rrc-count}
-use Rattle.c_lowpass.specs.Laws.{leaves-part, writes-whole}
+use Rattle.wire.specs.Writes.{Room}
+use Rattle.wire.specs.WritesLaws.{room, leaves-part, writes-whole}
+use Rattle.fir_rrc.specs.RrcLaws.{rrc-count}
 use borrow.Author.Needs.{needs}
 use Rattle.c_pulses.proofs.cosine.pel_rrc.Statement.{statement}
 use Rattle.c_pulses.proofs.cosine.pel_rrc.Tie as tie
@@ -32,7 +31,7 @@ refused-requires c κs = search needs
 returns : tie.Need-returns
 returns c =
     let start = c .before .before .before in
-    leaves-part (len start) (outcome start) (c .before .if1 .taken) (c .refused .ensures)
+    leaves-part 8 (len start) (outcome start) (c .before .if1 .taken) (c .refused .ensures)
 
 fitted-requires : tie.Need-fitted-requires
 fitted-requires c κs = search needs
@@ -50,7 +49,7 @@ returns-2 : tie.Need-returns-2
 returns-2 c =
     let p = c .before .before .before .before in
     let start = p .before .before .before in
-    writes-whole (len start) (outcome start) (p .before .if1 .left) (ap outcomeOf (p .fitted .ensures)) (c .before .before .write-rrc .ensures)
+    writes-whole 8 (len start) (outcome start) (p .before .if1 .left) (ap outcomeOf (p .fitted .ensures)) (c .before .before .write-rrc .ensures)
 
 pub pel-rrc-spec : {M : Type 1} → statement M
 pel-rrc-spec =

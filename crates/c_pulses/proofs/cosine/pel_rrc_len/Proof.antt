@@ -1,6 +1,6 @@
 -- `c_pulses::cosine::pel_rrc_len` meets its contract. Assumes nothing.
 use mathlib.Core.Path.{ap, _∙_}
-use Rattle.c_lowpass.specs.Reports.{lengthReport}
+use Rattle.verdict.specs.Reports.{lengthReport}
 use borrow.Author.Needs.{needs}
 use Rattle.c_pulses.proofs.cosine.pel_rrc_len.Statement.{statement}
 use Rattle.c_pulses.proofs.cosine.pel_rrc_len.Tie as tie

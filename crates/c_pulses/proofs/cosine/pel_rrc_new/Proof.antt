@@ -3,7 +3,7 @@ use mathlib.Core.Path.{sym, ap, _∙_}
 use borrow.Author.Needs.{needs}
 use Rattle.verdict.specs.declared.Report.{Report}
 use Rattle.fir_rrc.specs.declared.design.RrcDesigned.{RrcDesigned}
-use Rattle.c_lowpass.specs.Reports.{outcomeReport}
+use Rattle.verdict.specs.Reports.{outcomeReport}
 use Rattle.c_pulses.specs.Sources.{ofRrc}
 use Rattle.c_pulses.proofs.cosine.pel_rrc_new.Statement.{statement}
 use Rattle.c_pulses.proofs.cosine.pel_rrc_new.Tie as tie

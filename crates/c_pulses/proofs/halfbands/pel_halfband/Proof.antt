@@ -2,12 +2,11 @@
 use mathlib.Core.Path.{ap}
 use Prim.Native.Nat.{ℕ, _/_}
 use lib.ListN.{length}
-use Rattle.fir_lowpass.specs.Outcome.{Outcome}
+use Rattle.verdict.specs.Outcome.{Outcome}
 use Rattle.fir_halfband.specs.Halfband.{halfbandOf, outcomeOf}
-use Rattle.c_lowpass.specs.Counts.{room}
-use Rattle.c_pulses.specs.Counts.{halfband-count}
-use Rattle.c_lowpass.specs.Laws.{leaves-part, writes-whole}
-use Rattle.c_pulses.specs.Laws.{fits-halfband}
+use Rattle.wire.specs.WritesLaws.{room, leaves-part, writes-whole}
+use Rattle.fir_halfband.specs.HalfbandLaws.{halfband-count}
+use Rattle.c_pulses.specs.FitsLaws.{fits-halfband}
 use borrow.Author.Needs.{needs}
 use Rattle.c_pulses.proofs.halfbands.pel_halfband.Statement.{statement}
 use Rattle.c_pulses.proofs.halfbands.pel_halfband.Tie as tie
@@ -28,7 +27,7 @@ refused-requires c κs = search needs
 returns : tie.Need-returns
 returns c =
     let start = c .before .before .before in
-    leaves-part (len start) (outcome start) (c .before .if1 .taken) (c .refused .ensures)
+    leaves-part 8 (len start) (outcome start) (c .before .if1 .taken) (c .refused .ensures)
 
 slice-aggregate-prepare : tie.Need-slice-aggregate-prepare
 slice-aggregate-prepare c = search needs
@@ -52,7 +51,7 @@ returns-2 : tie.Need-returns-2
 returns-2 c =
     let p = c .before .before .before .before .before .before in
     let start = p .before .before .before .before in
-    writes-whole (len start) (outcome start) (p .before .before .if1 .left) (ap outcomeOf (p .prepare .ensures .is)) (c .before .before .write-halfband .ensures)
+    writes-whole 8 (len start) (outcome start) (p .before .before .if1 .left) (ap outcomeOf (p .prepare .ensures .is)) (c .before .before .write-halfband .ensures)
 
 pub pel-halfband-spec : {M : Type 1} → statement M
 pel-halfband-spec =

@@ -2,13 +2,12 @@
 use mathlib.Core.Path.{ap}
 use Prim.Native.Nat.{ℕ, _/_}
 use lib.ListN.{length}
-use Rattle.fir_lowpass.specs.Outcome.{Outcome}
+use Rattle.verdict.specs.Outcome.{Outcome}
 use Rattle.fir_gaussian.specs.Gaussian.{gaussianOf, fittedOf, outcomeOf}
 use Rattle.fir_gaussian.specs.declared.gaussian_design.GaussianDesigned.{GaussianDesigned}
-use Rattle.c_lowpass.specs.Counts.{room}
-use Rattle.c_pulses.specs.Counts.{gaussian-count}
-use Rattle.c_lowpass.specs.Laws.{leaves-part, writes-whole}
-use Rattle.c_pulses.specs.Laws.{fits-gaussian}
+use Rattle.wire.specs.WritesLaws.{room, leaves-part, writes-whole}
+use Rattle.fir_gaussian.specs.GaussianLaws.{gaussian-count}
+use Rattle.c_pulses.specs.FitsLaws.{fits-gaussian}
 use borrow.Author.Needs.{needs}
 use Rattle.c_pulses.proofs.pulse.pel_gaussian.Statement.{statement}
 use Rattle.c_pulses.proofs.pulse.pel_gaussian.Tie as tie
@@ -32,7 +31,7 @@ refused-requires c κs = search needs
 returns : tie.Need-returns
 returns c =
     let start = c .before .before .before in
-    leaves-part (len start) (outcome start) (c .before .if1 .taken) (c .refused .ensures)
+    leaves-part 8 (len start) (outcome start) (c .before .if1 .taken) (c .refused .ensures)
 
 slice-aggregate-fitted : tie.Need-slice-aggregate-fitted
 slice-aggregate-fitted c = search needs
@@ -56,7 +55,7 @@ returns-2 : tie.Need-returns-2
 returns-2 c =
     let p = c .before .before .before .before .before .before in
     let start = p .before .before .before .before in
-    writes-whole (len start) (outcome start) (p .before .before .if1 .left) (ap outcomeOf (p .fitted .ensures .is)) (c .before .before .write-gaussian .ensures)
+    writes-whole 8 (len start) (outcome start) (p .before .before .if1 .left) (ap outcomeOf (p .fitted .ensures .is)) (c .before .before .write-gaussian .ensures)
 
 pub pel-gaussian-spec : {M : Type 1} → statement M
 pel-gaussian-spec =

@@ -3,7 +3,7 @@ use mathlib.Core.Path.{sym, ap, _∙_}
 use borrow.Author.Needs.{needs}
 use Rattle.verdict.specs.declared.Report.{Report}
 use Rattle.fir_gaussian.specs.declared.gaussian_design.GaussianDesigned.{GaussianDesigned}
-use Rattle.c_lowpass.specs.Reports.{outcomeReport}
+use Rattle.verdict.specs.Reports.{outcomeReport}
 use Rattle.c_pulses.specs.Sources.{ofGaussian}
 use Rattle.c_pulses.proofs.pulse.pel_gaussian_new.Statement.{statement}
 use Rattle.c_pulses.proofs.pulse.pel_gaussian_new.Tie as tie

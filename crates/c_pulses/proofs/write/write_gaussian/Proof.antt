@@ -1,7 +1,7 @@
 -- `c_pulses::write::write_gaussian` meets its contract, a design and a refusal. Assumes nothing.
 use mathlib.Core.Path.{ap}
 use Rattle.c_pulses.specs.Sources.{ofGaussian}
-use Rattle.c_lowpass.specs.Laws.{leaves, fills-room}
+use Rattle.wire.specs.WritesLaws.{leaves, fills-room}
 use borrow.Author.Needs.{needs}
 use Rattle.c_pulses.proofs.write.write_gaussian.Statement.{statement}
 use Rattle.c_pulses.proofs.write.write_gaussian.Tie as tie

@@ -7,7 +7,7 @@ use Rattle.laws.specs.Chunks.{chunked}
 use Rattle.wire.specs.Bytes.{floatBytes}
 use Rattle.fir_halfband.specs.Halfband.{tapWith, tapOf}
 use Rattle.c_pulses.specs.Sources.{ofHalfband}
-use Rattle.c_lowpass.specs.Laws.{leaves, fills-room}
+use Rattle.wire.specs.WritesLaws.{leaves, fills-room}
 use borrow.Author.Needs.{needs}
 use Rattle.c_pulses.proofs.write.write_halfband.Statement.{statement}
 use Rattle.c_pulses.proofs.write.write_halfband.Tie as tie

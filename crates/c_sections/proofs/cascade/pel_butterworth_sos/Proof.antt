@@ -3,10 +3,10 @@ use mathlib.Core.Path.{refl, sym, ap, _∙_}
 use Prim.Native.Nat.{ℕ, _/_}
 use borrow.Author.Needs.{needs}
 use lib.ListN.{length}
-use Rattle.fir_lowpass.specs.Outcome.{Outcome}
+use Rattle.verdict.specs.Outcome.{Outcome}
 use Rattle.iir_butterworth.specs.Butterworth.{butterworthOf}
 use Rattle.iir_biquad.specs.declared.biquad.Response.{Response}
-use Rattle.c_lowpass.specs.Laws.{leaves, writes-same, leaves-part, writes-whole}
+use Rattle.wire.specs.WritesLaws.{leaves, writes-same, leaves-part, writes-whole}
 use Rattle.c_sections.specs.Numbers.{butterworthBytes}
 use Rattle.c_sections.specs.declared.codes.Coded.{Coded}
 use Rattle.c_sections.proofs.cascade.pel_butterworth_sos.Statement.{statement}
@@ -39,7 +39,7 @@ returns c =
     let k = c .before .before .before in
     let start = k .before .before .before .before in
     let known = ap (by-code start) (sym (k .coded .given .1) ∙ k .before .before .response-of .ensures) in
-    writes-same known (leaves-part (len start) (outcome start (k .coded .given .0 .0)) (c .before .if1 .taken) (c .refused .ensures))
+    writes-same known (leaves-part 8 (len start) (outcome start (k .coded .given .0 .0)) (c .before .if1 .taken) (c .refused .ensures))
 
 write-cascade-requires : tie.Need-write-cascade-requires
 write-cascade-requires c κs = search needs
@@ -59,7 +59,7 @@ returns-2 c =
     let k = e .before .before in
     let start = k .before .before .before .before in
     let known = ap (by-code start) (sym (k .coded .given .1) ∙ k .before .before .response-of .ensures) in
-    writes-same known (writes-whole (len start) (outcome start (k .coded .given .0 .0)) (e .if1 .left) refl (c .before .before .write-cascade .ensures))
+    writes-same known (writes-whole 8 (len start) (outcome start (k .coded .given .0 .0)) (e .if1 .left) refl (c .before .before .write-cascade .ensures))
 
 returns-3 : tie.Need-returns-3
 returns-3 c =

@@ -3,11 +3,11 @@ use mathlib.Core.Path.{sym, ap, _∙_}
 use Prim.Native.Nat.{ℕ, _*_}
 use borrow.Author.Needs.{needs}
 use lib.ListN.{length}
-use Rattle.fir_lowpass.specs.Outcome.{Outcome}
+use Rattle.verdict.specs.Outcome.{Outcome}
 use Rattle.iir_biquad.specs.Biquad.{biquadOf}
 use Rattle.iir_biquad.specs.declared.biquad.Response.{Response}
 use Rattle.iir_biquad.specs.declared.biquad.Biquad.{Biquad}
-use Rattle.c_lowpass.specs.Laws.{leaves, writes-same}
+use Rattle.wire.specs.WritesLaws.{leaves, writes-same}
 use Rattle.c_sections.specs.Numbers.{numbersOf, biquadBytes}
 use Rattle.c_sections.specs.Laws.{leaves-other, writes-exact}
 use Rattle.c_sections.specs.declared.codes.Coded.{Coded}

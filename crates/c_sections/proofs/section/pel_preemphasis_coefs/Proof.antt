@@ -3,7 +3,7 @@ use mathlib.Core.Path.{ap, _∙_}
 use Prim.Native.Nat.{ℕ, _*_}
 use borrow.Author.Needs.{needs}
 use lib.ListN.{length}
-use Rattle.fir_lowpass.specs.Outcome.{Outcome}
+use Rattle.verdict.specs.Outcome.{Outcome}
 use Rattle.iir_biquad.specs.Preemphasis.{preemphasisOf}
 use Rattle.iir_biquad.specs.declared.preemphasis.Preemphasis.{Preemphasis}
 use Rattle.c_sections.specs.Numbers.{numbersOf}

@@ -8,8 +8,8 @@ use lib.Ieee.{binary64, nan, ofBits, ofInt, toBits}
 use Rattle.laws.specs.Chunks.{chunks, chunked}
 use Rattle.wire.specs.Laws.{put-none, put-more, put-length, put-all}
 use Rattle.wire.specs.Bytes.{floatBytes}
-use Rattle.iir_biquad.specs.declared.biquad.Verdict.{Verdict}
-use Rattle.c_lowpass.specs.Laws.{leaves, fills}
+use Rattle.verdict.specs.declared.Verdict.{Verdict}
+use Rattle.wire.specs.WritesLaws.{leaves, fills}
 use Rattle.c_sections.specs.Numbers.{numbersOf}
 use Rattle.c_sections.proofs.write.write_numbers.Statement.{statement}
 use Rattle.c_sections.proofs.write.write_numbers.Tie as tie

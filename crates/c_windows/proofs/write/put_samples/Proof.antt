@@ -1,20 +1,49 @@
--- `c_windows::write::put_samples` meets its contract; FillLaws has what its loop keeps, besides the arguments of the next two. Assumes nothing.
-use mathlib.Core.Path.{_≡_, refl, ap, _∙_}
-use Prim.Native.Nat.{ℕ, _+_, _*_, _/_, _-_, _^_, _<_, _≤_}
+-- `c_windows::write::put_samples` meets its contract. The loop keeps the samples so far at the front of the buffer, and the arguments of the next two. Assumes nothing.
+use mathlib.Core.Path.{_≡_, refl, sym, ap, _∙_}
+use mathlib.Core.List.{List}
+use Prim.Native.Nat.{ℕ, _+_, _*_, _/_, _-_, _^_, _%_, _<_, _≤_}
 use native.Mathlib.Omega.{arith}
 use lib.ListN.{length}
 use lib.Ieee.{Float}
 use Rattle.win_sampled.specs.declared.shape.Shape.{Shape}
 use Rattle.win_sampled.specs.Shapes.{sampleAt, placeAt, argumentOf, valueAt}
 use Rattle.win_sampled.specs.SampleLaws.{three-steps}
-use Rattle.c_windows.specs.Samples.{widthOf}
-use Rattle.c_windows.specs.FillLaws.{some-width, half, room, Filling, fill-start, same-size, fill-next, fill-done}
+use Rattle.wire.specs.Bytes.{putOf}
+use Rattle.wire.specs.WrittenPrefix.{WrittenPrefix, at-first, one-more, at-end}
+use Rattle.laws.specs.Chunks.{chunks}
+use Rattle.c_windows.specs.declared.sample.Sample.{Sample}
+use Rattle.c_windows.specs.Samples.{widthOf, patternOf, sampleBytes}
+use Rattle.c_windows.specs.RoomLaws.{some-width, half, room, full}
 use Rattle.c_windows.proofs.write.put_samples.Statement.{statement}
 use Rattle.c_windows.proofs.write.put_samples.Tie as tie
 
 -- sample i by its argument
 sampled : (shape : Shape) (i0 : Float) (d i : ℕ) {x v : Float} → x ≡ argumentOf shape (placeAt shape d i) → v ≡ valueAt shape i0 d x → v ≡ sampleAt shape i0 d i
 sampled shape i0 d i e f = f ∙ ap (λ (x : Float). valueAt shape i0 d x) e ∙ three-steps shape i0 d i
+
+-- the first i samples stand at the front of the buffer
+pub record Filling (s : Sample) (x : ℕ → Float) (before now : List ℕ) (i : ℕ) : Type 0 where
+  pub within : i ≤ length before / widthOf s
+  pub prefix : WrittenPrefix (widthOf s) (Unit {0}) (λ k. patternOf s (x k)) before i now
+
+module _ {s : Sample} {x : ℕ → Float} {before : List ℕ} where
+  fill-start : Filling s x before before 0
+  fill-start = record { within = omega arith; prefix = at-first (widthOf s) (Unit {0}) (λ k. patternOf s (x k)) before }
+
+  -- one sample more, and all of them; w is the width as the code has it
+  module _ {now : List ℕ} {i : ℕ} (f : Filling s x before now i) {w : ℕ} (e : w ≡ widthOf s) where
+    fill-next : {v : Float} {after : List ℕ} → i < length before / w → v ≡ x i → after ≡ putOf (widthOf s) now (w * i) (patternOf s v) → Filling s x before after (i + 1)
+    fill-next {v} l is put =
+        let more : i + 1 ≤ length before / widthOf s = omega (arith, rw e at l) in
+        record {
+          within = more;
+          prefix = one-more (f .prefix) (room (widthOf s) (length before) (i + 1) more) (λ u. ap (patternOf s) is) (put ∙ ap (λ (k : ℕ). putOf (widthOf s) now (k * i) (patternOf s v)) e);
+        }
+
+    fill-done : length before % widthOf s ≡ 0 → length before / w ≤ i → now ≡ chunks (length before / widthOf s) (λ k. sampleBytes s (x k))
+    fill-done whole l =
+        let end : i ≡ length before / widthOf s = omega (arith, f .within, rw e at l) in
+        at-end (f .prefix) (rw end (full (widthOf s) (length before) whole)) tt ∙ ap (λ (k : ℕ). chunks k (λ j. sampleBytes s (x j))) end
 
 abbrev Inv-loop : tie.InvT-loop
 Inv-loop shape i0 d sample out₀ wide n x₀ y₀ i₀ out x y i = Filling sample (sampleAt shape i0 d) out₀ out i × (x ≡ argumentOf shape (placeAt shape d i)) × (y ≡ argumentOf shape (placeAt shape d (i + 1)))
@@ -140,7 +169,7 @@ last c =
     fill-next (at .loop .inv .0) (wide at) (omega arith) (sampled (a .shape) (a .i0) (a .d) (at .loop .i) (at .loop .inv .1) (c .before .value-at .ensures)) (c .store3 .ensures)
 
 same-length : tie.Need-same-length Inv-loop μ-loop
-same-length c = same-size (last (c .before .before))
+same-length c = last (c .before .before) .prefix .size
 
 returns : tie.Need-returns Inv-loop μ-loop
 returns c =
@@ -148,7 +177,7 @@ returns c =
     fill-done (last (c .before .before)) (wide at) (start at .pre) (omega arith)
 
 same-length-2 : tie.Need-same-length-2 Inv-loop μ-loop
-same-length-2 c = same-size (c .before .before .loop .inv .0)
+same-length-2 c = c .before .before .loop .inv .0 .prefix .size
 
 returns-2 : tie.Need-returns-2 Inv-loop μ-loop
 returns-2 c =

@@ -7,7 +7,7 @@ use lib.ListN.{length}
 use lib.Ieee.{ofInt, ofBits}
 use Rattle.c_windows.specs.declared.codes.Coded.the-variants.{Known}
 use Rattle.c_windows.specs.Codes.{symmetryOf}
-use Rattle.c_windows.specs.FillLaws.{some-width}
+use Rattle.c_windows.specs.RoomLaws.{some-width}
 use Rattle.c_windows.specs.WriteLaws.{unknown-code, part-left, shape-refused, window-written}
 use Rattle.c_windows.proofs.write.write_window.Statement.{statement}
 use Rattle.c_windows.proofs.write.write_window.Tie as tie
@@ -46,7 +46,7 @@ refused-requires c κs = search needs
 returns : tie.Need-returns
 returns c =
     let w = c .before .before in
-    part-left (start w .args .shape) (known w) (w .width .ensures) (c .before .if1 .taken) (c .refused .ensures)
+    part-left (start w .args .sample) (start w .args .shape) (known w) (w .width .ensures) (c .before .if1 .taken) (c .refused .ensures)
 
 takes-shape-requires : tie.Need-takes-shape-requires
 takes-shape-requires c κs = search needs
@@ -58,7 +58,7 @@ returns-2 : tie.Need-returns-2
 returns-2 c =
     let t = c .before .before in
     let w = t .before .before in
-    shape-refused (start w .args .shape) (known w) (w .width .ensures) (t .before .if1 .left) (t .takes-shape .ensures) (c .before .if2 .taken) (c .refused2 .ensures)
+    shape-refused (start w .args .sample) (start w .args .shape) (known w) (w .width .ensures) (t .before .if1 .left) (t .takes-shape .ensures) (c .before .if2 .taken) (c .refused2 .ensures)
 
 div-n : tie.Need-div-n
 div-n c = some (c .before .before .before)
@@ -93,13 +93,13 @@ returns-3 c =
     let d = put .before .before in
     let t = d .before .before .before in
     let w = t .before .before in
-    window-written (start w .args .shape) (known w) (w .width .ensures) (t .before .if1 .left) (t .takes-shape .ensures)
+    window-written (start w .args .sample) (start w .args .shape) (known w) (w .width .ensures) (t .before .if1 .left) (t .takes-shape .ensures)
     (d .before .before .if2 .left) (d .before .norm .ensures) (d .divisor .ensures) (c .accepted .ensures) (put .put-samples .ensures)
 
 returns-4 : tie.Need-returns-4
 returns-4 c =
     let m = c .before .before .before in
-    unknown-code (m .before .before .args .shape) (sym (m .symmetry-of .ensures) ∙ c .before .enum-told .given .1) (c .refused3 .ensures)
+    unknown-code (m .before .before .args .sample) (m .before .before .args .shape) (sym (m .symmetry-of .ensures) ∙ c .before .enum-told .given .1) (c .refused3 .ensures)
 
 pub write-window-spec : {M : Type 1} → statement M
 write-window-spec =

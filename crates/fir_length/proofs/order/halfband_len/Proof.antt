@@ -4,7 +4,7 @@ use Prim.Native.Nat.{ℕ, _+_, _%_}
 use borrow.Author.Needs.{needs}
 use borrow.Author.Tests.{eq-eqb, ne-eqb}
 use Rattle.fir_length.specs.Kaiser.{halfbandUp, lengthened, halfbandLenOf}
-use Rattle.fir_length.specs.declared.order.Length.the-variants.{Taps}
+use Rattle.verdict.specs.declared.Length.the-variants.{Taps}
 use Rattle.fir_length.proofs.order.halfband_len.Statement.{statement}
 use Rattle.fir_length.proofs.order.halfband_len.Tie as tie
 

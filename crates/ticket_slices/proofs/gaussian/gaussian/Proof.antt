@@ -5,7 +5,7 @@ use native.Mathlib.Omega.{arith}
 use borrow.Author.Needs.{needs, scaled-fits}
 use lib.ListN.{length}
 use Rattle.laws.specs.Filled.{filled, fill-none, fill-more, fill-all, length-filled}
-use Rattle.fir_lowpass.specs.OutcomeLaws.{fills, leaves}
+use Rattle.verdict.specs.OutcomeLaws.{fills, leaves}
 use Rattle.fir_gaussian.specs.Gaussian.{tapOf, outcomeOf}
 use Rattle.ticket_slices.proofs.gaussian.gaussian.Statement.{statement}
 use Rattle.ticket_slices.proofs.gaussian.gaussian.Tie as tie

@@ -4,8 +4,8 @@ use native.Mathlib.Omega.{arith}
 use borrow.Author.Needs.{needs}
 use borrow.Author.Tests.{not-true, not-false}
 use lib.Ieee.{ofBits, ofInt, round}
-use Rattle.fir_length.specs.declared.order.Length.{Length}
-use Rattle.fir_length.specs.declared.order.Length.the-variants as Length
+use Rattle.verdict.specs.declared.Length.{Length}
+use Rattle.verdict.specs.declared.Length.the-variants as Length
 use Rattle.fir_rrc.specs.Rrc.{rrcIn, rrcOf}
 use Rattle.fir_rrc.specs.RrcLaws.{few, by-length, ready, no-rolloff}
 use Rattle.fir_rrc.proofs.design.Rrc.new.Statement.{statement}
