@@ -3,8 +3,8 @@ use super::codes::Coded;
 use super::codes::window_of;
 use super::told::told_lowpass;
 use super::write::write_lowpass;
+use fir_cache::CACHED;
 use fir_lowpass::lowpass::Lowpass;
-use ticket_taps::KEPT;
 use verdict::Refusal;
 use verdict::Report;
 ghost use mathlib.Core.Path.{_≡_};
@@ -53,7 +53,7 @@ pub extern "C" fn pel_lowpass(
             if len % 8 != 0 {
                 return verdict::refused(Refusal::Length(len - len % 8, len));
             }
-            let mut raws = [0.0f64; KEPT];
+            let mut raws = [0.0f64; CACHED];
             let p = fir_lowpass::lowpass::prepare(cutoff, rate, w, len / 8, &mut raws);
             write_lowpass(p, &raws, &mut *out)
         }

@@ -1,7 +1,7 @@
 // The channelizer's prototype, as exports: how many taps its edges need, the design judged, and its taps in a buffer.
 use super::told::told_lowpass;
 use super::write::write_lowpass;
-use ticket_taps::KEPT;
+use fir_cache::CACHED;
 use verdict::Refusal;
 use verdict::Report;
 use verdict::told_length;
@@ -81,7 +81,7 @@ pub extern "C" fn pel_channelizer_prototype(
     if len % 8 != 0 {
         return verdict::refused(Refusal::Length(len - len % 8, len));
     }
-    let mut raws = [0.0f64; KEPT];
+    let mut raws = [0.0f64; CACHED];
     let p = fir_channelizer::fitted(
         channels,
         branch,

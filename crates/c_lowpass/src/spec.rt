@@ -1,8 +1,8 @@
 // The low-pass by its specification, as exports: how many taps it needs, the design judged, and its taps in a buffer.
 use super::told::told_lowpass;
 use super::write::write_lowpass;
+use fir_cache::CACHED;
 use fir_spec::DesignSpec;
-use ticket_taps::KEPT;
 use verdict::Refusal;
 use verdict::Report;
 use verdict::told_length;
@@ -75,7 +75,7 @@ pub extern "C" fn pel_spec_design(
         transition: transition,
         attenuation: attenuation,
     };
-    let mut raws = [0.0f64; KEPT];
+    let mut raws = [0.0f64; CACHED];
     let p = fir_spec::spec_prepare(spec, rate, cap, len / 8, &mut raws);
     write_lowpass(p, &raws, &mut *out)
 }

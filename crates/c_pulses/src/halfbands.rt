@@ -1,8 +1,8 @@
 // The half-band filter, as exports: the design judged, and its taps in a buffer.
 use super::write::write_halfband;
+use fir_cache::CACHED;
 use fir_halfband::HalfbandDesign;
 use fir_halfband::HalfbandDesigned;
-use ticket_taps::KEPT;
 use verdict::Refusal;
 use verdict::Report;
 ghost use mathlib.Core.Path.{_≡_};
@@ -34,7 +34,7 @@ pub extern "C" fn pel_halfband(beta: f64, out: &mut [u8]) -> Report
     if len % 8 != 0 {
         return verdict::refused(Refusal::Length(len - len % 8, len));
     }
-    let mut raws = [0.0f64; KEPT];
+    let mut raws = [0.0f64; CACHED];
     let p = fir_halfband::prepare(beta, len / 8, &mut raws);
     write_halfband(p, &raws, &mut *out)
 }

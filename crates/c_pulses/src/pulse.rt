@@ -1,8 +1,8 @@
 // The Gaussian pulse, as exports: the design judged, and its taps in a buffer.
 use super::write::write_gaussian;
+use fir_cache::CACHED;
 use fir_gaussian::gaussian_design::Gaussian;
 use fir_gaussian::gaussian_design::GaussianDesigned;
-use ticket_taps::KEPT;
 use verdict::Refusal;
 use verdict::Report;
 ghost use mathlib.Core.Path.{_≡_};
@@ -34,7 +34,7 @@ pub extern "C" fn pel_gaussian(bt: f64, samples: u64, span: u64, out: &mut [u8])
     if len % 8 != 0 {
         return verdict::refused(Refusal::Length(len - len % 8, len));
     }
-    let mut raws = [0.0f64; KEPT];
+    let mut raws = [0.0f64; CACHED];
     let designed = fir_gaussian::gaussian_design::fitted(bt, samples, span, len / 8, &mut raws);
     write_gaussian(designed, &raws, &mut *out)
 }

@@ -10,7 +10,7 @@ use Rattle.laws.specs.Binary64.{_⊖_, _⊗_, _⊘_, whole, fraction, pi, ln2}
 use Rattle.laws.specs.Sums.{sumTo}
 use Rattle.math_exp.specs.Exp.{expOf}
 use Rattle.verdict.specs.declared.Refusal.the-variants.{Range, Length}
-use Rattle.fir_sinc.specs.Kept.{KeepsOf}
+use Rattle.fir_cache.specs.Cached.{KeepsOf}
 use Rattle.verdict.specs.Outcome.{Outcome}
 use Rattle.verdict.specs.Outcome as Outcome
 use Rattle.fir_gaussian.specs.declared.gaussian_design.Gaussian.{Gaussian}

@@ -11,7 +11,7 @@ use lib.ListN.{length, getD}
 use lib.Ieee.{Float, nan}
 use Rattle.laws.specs.Binary64.{_⊘_, whole, fraction}
 use Rattle.laws.specs.Tests.{both}
-use Rattle.fir_sinc.specs.Kept.{Totals}
+use Rattle.fir_cache.specs.Cached.{Totals}
 use Rattle.verdict.specs.declared.Refusal.{Refusal}
 use Rattle.verdict.specs.declared.Refusal.the-variants.{Range, Length}
 use Rattle.fir_gaussian.specs.Gaussian.{exponent, rawAt, btTaken, spanTaken, samplesTaken, madeOf, gaussianOf, fittedOf, tapOf, Keeps, Prepares, outcomeOf}

@@ -1,17 +1,14 @@
 // The design of the Gaussian pulse of GFSK and GMSK: judged first, then its taps one at a time.
-use fir_sinc::sum::keep;
+use fir_cache::keep;
+use math_numbers::PI;
+use math_numbers::TAP_LIMIT;
 use verdict::Refusal;
 ghost use mathlib.Core.Path.{_≡_};
 ghost use Prim.Native.Nat.{_^_, _<_, _≤_};
-ghost use Rattle.fir_sinc.specs.Kept.{Totals};
+ghost use Rattle.fir_cache.specs.Cached.{Totals};
 ghost use Rattle.fir_gaussian.specs.Gaussian.{btTaken, spanTaken, samplesTaken, rawAt, gaussianOf, fittedOf, tapOf, Keeps, Prepares};
 
-const PI: f64 = 3.141592653589793;
-
 const LN_2: f64 = 0.6931471805599453;
-
-// The largest number of taps that a design takes.
-const TAP_LIMIT: u64 = 16777216;
 
 // A design: the exponent 2 π² bt² / ln 2, the samples of a symbol, the middle, how many taps, and the sum that they are divided by.
 pub struct Gaussian {

@@ -1,5 +1,6 @@
 // The number of taps of a Kaiser design.
 use super::beta::kaiser_beta;
+use math_numbers::PI;
 use verdict::Length;
 use verdict::Refusal;
 ghost use mathlib.Core.Path.{_≡_};
@@ -7,8 +8,6 @@ ghost use Prim.Native.Nat.{_+_, _%_};
 ghost use lib.Ieee.{toUnsigned};
 ghost use Rattle.math_round.specs.Whole.{ceilOf};
 ghost use Rattle.fir_length.specs.Kaiser.{estimate, oddUp, orderOf, halfbandUp, halfbandLenOf};
-
-const PI: f64 = 3.141592653589793;
 
 // How many taps, and beta; or why not.
 pub enum Order {

@@ -18,7 +18,7 @@ use Rattle.verdict.specs.Outcome.{Fills}
 use Rattle.verdict.specs.OutcomeLaws as Outcome
 use Rattle.fir_sinc.specs.Windows.{normOf}
 use Rattle.fir_sinc.specs.Taps.{rawAt}
-use Rattle.fir_sinc.specs.Kept.{KeepsOf}
+use Rattle.fir_cache.specs.Cached.{KeepsOf}
 use Rattle.fir_lowpass.specs.Lowpass.{divisorOf, inside, countTaken, betaTaken, usable, lowpassOf, tapWith, tapOf, tapsOf, outcomeOf}
 use Rattle.fir_lowpass.specs.Kept.{Keeps, Prepares}
 use Rattle.fir_sinc.specs.declared.window.Window.{Window}

@@ -3,6 +3,7 @@ use fir_sinc::sum::total;
 use fir_sinc::tap::raw_tap;
 use fir_sinc::window::Window;
 use fir_sinc::window::norm;
+use math_numbers::TAP_LIMIT;
 use verdict::Refusal;
 use verdict::Verdict;
 ghost use mathlib.Core.Path.{_≡_};
@@ -10,9 +11,6 @@ ghost use lib.ListN.{length};
 ghost use Rattle.fir_lowpass.specs.Lowpass.{inside, countTaken, betaTaken, usable, lowpassOf, tapWith, tapOf, tapsOf, outcomeOf};
 ghost use Rattle.verdict.specs.Outcome.{Fills};
 ghost use Rattle.fir_lowpass.specs.Kept.{Keeps, Normed, Prepares};
-
-// The largest number of taps that a design takes.
-const TAP_LIMIT: u64 = 16777216;
 
 // A design: how many taps, the cutoff as a fraction of the rate, the window, and the sum that the taps are divided by.
 pub struct Lowpass {

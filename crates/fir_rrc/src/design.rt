@@ -1,4 +1,6 @@
 // The design of the root-raised-cosine pulse: judged first, then its taps one at a time.
+use math_numbers::PI;
+use math_numbers::TAP_LIMIT;
 use verdict::Length;
 use verdict::Refusal;
 ghost use mathlib.Core.Path.{_≡_};
@@ -8,12 +10,7 @@ ghost use Rattle.laws.specs.Binary64.{_⊗_};
 ghost use Rattle.laws.specs.Sums.{sumTo};
 ghost use Rattle.fir_rrc.specs.Rrc.{sampled, spanned, rrcLenOf, peak, corner, slope, pulseAt, unscaledAt, rolloffTaken, rrcOf, tapOf, fittedOf};
 
-const PI: f64 = 3.141592653589793;
-
 const SQRT_2: f64 = 1.4142135623730951;
-
-// The largest number of taps, and of samples, that a record is taken with.
-const LIMIT: u64 = 16777216;
 
 // A design: the roll-off, the samples of a symbol, how many taps, and the factor that makes their energy 1.
 pub struct Rrc {
@@ -161,12 +158,12 @@ impl Rrc {
         ensures { λ r. ⌜ r ≡ tapOf self k ⌝ }
     {
         let n = self.n;
-        if n > LIMIT {
+        if n > TAP_LIMIT {
             return 0.0;
         }
         if k < n {
             let sps = self.sps;
-            if sps > LIMIT {
+            if sps > TAP_LIMIT {
                 return 0.0;
             }
             unscaled_at(self.rolloff, sps, n, k) * self.norm

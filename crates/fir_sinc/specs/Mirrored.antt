@@ -7,8 +7,9 @@ use Rattle.laws.specs.Binary64.{_⊗_, _⊘_, whole, pi}
 use Rattle.laws.specs.Signs.{div-neg-both}
 use Rattle.math_trig.specs.Trig.{sinOf}
 use Rattle.fir_sinc.specs.declared.window.Window.{Window}
-use Rattle.fir_sinc.specs.Windows.{windowAt, placeAt, argumentOf, valueAt}
-use Rattle.fir_sinc.specs.StepLaws.{three-steps}
+use Rattle.win_shapes.specs.Steps.{argumentOf}
+use Rattle.fir_sinc.specs.Windows.{windowAt}
+use Rattle.fir_sinc.specs.StepLaws.{placeAt, valueAt, curveOf, three-steps}
 use Rattle.fir_sinc.specs.Taps.{sinc, offsetAt, idealAt, rawAt}
 
 -- tap i of n has the sinc of its mirror image, which is one of the first `half`
@@ -22,7 +23,7 @@ same-sinc x y a b e s =
     rw (a, b) (ap (λ (z : Float). sinOf (pi ⊗ y) ⊘ z) e ∙ ap (λ (z : Float). z ⊘ neg (pi ⊗ x)) s ∙ div-neg-both binary64 (sinOf (pi ⊗ x)) (pi ⊗ x))
 
 same-window : (w : Window) (i0 : Float) (n i j : ℕ) → placeAt w n i ≡ placeAt w n j → windowAt w i0 n i ≡ windowAt w i0 n j
-same-window w i0 n i j e = sym (three-steps w i0 n i) ∙ ap (λ (p : Float). valueAt w i0 n (argumentOf w p)) e ∙ three-steps w i0 n j
+same-window w i0 n i j e = sym (three-steps w i0 n i) ∙ ap (λ (p : Float). valueAt w i0 n (argumentOf (curveOf w) p)) e ∙ three-steps w i0 n j
 
 -- taps of one sinc
 pub same-ideal : (fc : Float) (n i j : ℕ) → sinc (offsetAt fc n i) ≡ sinc (offsetAt fc n j) → idealAt fc n i ≡ idealAt fc n j

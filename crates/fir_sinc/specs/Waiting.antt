@@ -9,8 +9,8 @@ use lib.Ieee.{Float, nan}
 use Rattle.laws.specs.Binary64.{_⊕_}
 use Rattle.laws.specs.Cases.{either}
 use Rattle.laws.specs.Numbers.{lt-or-le}
-use Rattle.fir_sinc.specs.Kept.{KeepsOf}
-use Rattle.fir_sinc.specs.KeptLaws.{Sofar, taken}
+use Rattle.fir_cache.specs.Cached.{KeepsOf}
+use Rattle.fir_cache.specs.CachedLaws.{Sofar, taken}
 
 -- how a sum of n goes: `front` of them first, whose values without their window lie from `last` downwards, past them; and of the first `half` these lie where their mirror images go
 pub record Planned (n front last half : ℕ) : Type 0 where

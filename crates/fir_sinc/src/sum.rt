@@ -7,7 +7,10 @@ use super::window::arguments_of;
 use super::window::place_at;
 use super::window::values_of;
 use super::window::window_at;
+use fir_cache::keep;
 use math_bessel::Pair;
+use math_numbers::PI;
+use math_numbers::TAP_LIMIT;
 ghost use mathlib.Core.Path.{_≡_};
 ghost use mathlib.Core.Bool.{true};
 ghost use Prim.Native.Nat.{_+_, _-_, _^_, _<_, _≤_};
@@ -17,24 +20,9 @@ ghost use Rattle.laws.specs.Binary64.{_⊕_, whole};
 ghost use Rattle.laws.specs.Sums.{sumTo};
 ghost use Rattle.fir_sinc.specs.Windows.{windowAt};
 ghost use Rattle.fir_sinc.specs.Taps.{sinc, idealAt, rawAt};
-ghost use Rattle.fir_sinc.specs.Kept.{KeepsOf, Totals, Adds};
+ghost use Rattle.fir_cache.specs.Cached.{KeepsOf, Totals, Adds};
 ghost use Rattle.fir_sinc.specs.Mirrored.{IsMirrored};
 ghost use Rattle.fir_sinc.specs.Waiting.{Mirrors, Waits, Planned};
-
-const PI: f64 = 3.141592653589793;
-
-// The largest number of taps that a design takes.
-const TAP_LIMIT: u64 = 16777216;
-
-// Stores v at i where the list has that place.
-pub fn keep(raws: &mut [f64], i: u64, v: f64)
-    ensures { λ _. ⌜ now (raws .exit) ≡ set (now (raws .entry)) i v ⌝ }
-{
-    let k = i as usize;
-    if k < raws.len() {
-        raws[k] = v;
-    }
-}
 
 // Takes raw tap i up in their sum, and keeps it where `raws` has its place.
 fn take(sum: f64, i: u64, v: f64, raws: &mut [f64]) -> f64

@@ -1,14 +1,11 @@
 // The taps of a windowed sinc before their division, one at a time.
 use super::window::Window;
 use super::window::window_at;
+use math_numbers::PI;
+use math_numbers::TAP_LIMIT;
 ghost use mathlib.Core.Path.{_≡_};
 ghost use Prim.Native.Nat.{_^_, _<_, _≤_};
 ghost use Rattle.fir_sinc.specs.Taps.{sinc, offsetAt, idealAt, rawAt, rawWithin};
-
-const PI: f64 = 3.141592653589793;
-
-// The largest number of taps that a design takes.
-const TAP_LIMIT: u64 = 16777216;
 
 // sin(π x) / (π x), and 1 at 0.
 fn sinc_at(x: f64) -> f64

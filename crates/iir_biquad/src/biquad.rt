@@ -1,10 +1,9 @@
 // One second-order section of the RBJ Audio EQ Cookbook.
+use math_numbers::PI;
 use verdict::Refusal;
 use verdict::Verdict;
 ghost use mathlib.Core.Path.{_≡_};
 ghost use Rattle.iir_biquad.specs.Biquad.{centreTaken, qualityTaken, sectionOf, biquadOf};
-
-const PI: f64 = 3.141592653589793;
 
 // What a section lets through.
 pub enum Response {

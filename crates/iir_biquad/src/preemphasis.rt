@@ -1,10 +1,9 @@
 // First-order pre-emphasis.
+use math_numbers::PI;
 use verdict::Refusal;
 use verdict::Verdict;
 ghost use mathlib.Core.Path.{_≡_};
 ghost use Rattle.iir_biquad.specs.Preemphasis.{constantTaken, rateTaken, preemphasisOf};
-
-const PI: f64 = 3.141592653589793;
 
 // b0, b1, a1 with a0 = 1; zeros where refused.
 pub struct Preemphasis {

@@ -2,6 +2,7 @@
 use iir_biquad::biquad::Response;
 use iir_biquad::biquad::biquad_coefs;
 use iir_biquad::biquad::takes_centre;
+use math_numbers::PI;
 use verdict::Refusal;
 use verdict::Verdict;
 ghost use mathlib.Core.Path.{_≡_};
@@ -10,8 +11,6 @@ ghost use lib.ListN.{length};
 ghost use lib.Seq.{sets};
 ghost use Rattle.verdict.specs.Outcome.{answered, Fills};
 ghost use Rattle.iir_butterworth.specs.Butterworth.{responseTaken, orderTaken, qualityOf, butterworthOf};
-
-const PI: f64 = 3.141592653589793;
 
 // Whether a cascade has this response: low-pass or high-pass.
 fn takes_response(response: Response) -> bool

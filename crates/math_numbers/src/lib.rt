@@ -1,9 +1,15 @@
-// Tests of numbers, and a number as a count.
+// Tests of numbers, a number as a count, and the two constants that designs share.
 ghost use mathlib.Core.Path.{_≡_};
 ghost use mathlib.Core.Bool.{true};
 ghost use lib.Ieee.{toUnsigned};
 ghost use lib.Ieee.Scale.{finite};
 ghost use Rattle.math_numbers.specs.Numbers.{positive, same};
+
+// The f64 nearest π.
+pub const PI: f64 = 3.141592653589793;
+
+// The largest number of taps that a design takes: 2^24.
+pub const TAP_LIMIT: u64 = 16777216;
 
 // Whether x is neither a NaN nor an infinity.
 pub fn is_finite(x: f64) -> bool

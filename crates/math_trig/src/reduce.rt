@@ -1,4 +1,5 @@
 // An argument split into quarter turns and what is left.
+use math_numbers::PI;
 ghost use mathlib.Core.Path.{_≡_};
 ghost use lib.Dec.{T};
 ghost use lib.Ieee.{le};
@@ -6,8 +7,6 @@ ghost use Rattle.math_round.specs.Whole.{absOf};
 ghost use Rattle.math_trig.specs.Trig.{limit, modulo4, quadrant, rest};
 ghost use Rattle.math_trig.specs.Laws.{Small};
 ghost use Rattle.laws.specs.Floor.{floorZ};
-
-const PI: f64 = 3.141592653589793;
 
 // π/2 in four parts, each short enough that its product with the number of quarter turns loses little.
 const P1: f64 = 26353589.0 / 16777216.0;

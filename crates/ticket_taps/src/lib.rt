@@ -3,6 +3,7 @@ use fir_gaussian::gaussian_design::Gaussian;
 use fir_halfband::HalfbandDesign;
 use fir_lowpass::lowpass::Lowpass;
 use fir_rrc::design::Rrc;
+use math_numbers::TAP_LIMIT;
 ghost use mathlib.Core.Path.{_≡_};
 ghost use Prim.Native.Nat.{_*_, _/_, _≤_};
 ghost use lib.ListN.{length};
@@ -11,12 +12,6 @@ ghost use Rattle.wire.specs.Bytes.{floatBytes};
 ghost use Rattle.fir_lowpass.specs.Lowpass.{tapWith};
 ghost use Rattle.fir_lowpass.specs.Kept.{Keeps};
 ghost use Rattle.ticket_taps.specs.Sources.{tapAt, KeptFor};
-
-// The largest number of taps that a design takes.
-const TAP_LIMIT: u64 = 16777216;
-
-// How many raw taps an export keeps while it designs, so that each is worked out once: 8 kilobytes.
-pub const KEPT: usize = 1024;
 
 // A design of any kind, with the series at its beta where it has one.
 pub enum Source {

@@ -1,6 +1,5 @@
 -- Windows of n samples, symmetric or periodic, and the buffer that holds one. Definitions only.
---   Hann 0.5 − 0.5 cos x,  Blackman-Harris 0.35875 − 0.48829 cos x + 0.14128 cos 2x − 0.01168 cos 3x,  with x = 2π i/D
---   Kaiser I0(beta √(1 − t²)) / I0(beta),  with t = 2 i/D − 1;  D = n, or n − 1 where it is symmetric
+--   the formulas of `win_shapes/Windows` with p = i and d = n, or n − 1 where the window is symmetric; 1 where that is 0
 use Prim.Native.Nat.{ℕ, _-_}
 use mathlib.Core.Path.{_≡_}
 use mathlib.Core.List.{List}
@@ -9,12 +8,11 @@ use lib.Dec.{eqb}
 use lib.ListN.{length}
 use lib.Ieee.{Float, le}
 use lib.Ieee.Scale.{finite}
-use Rattle.laws.specs.Binary64.{_⊕_, _⊖_, _⊗_, whole, fraction}
+use Rattle.laws.specs.Binary64.{whole}
 use Rattle.laws.specs.Filled.{tabulate}
-use Rattle.math_trig.specs.Trig.{cosOf}
 use Rattle.math_bessel.specs.Series.{seriesOf}
 use Rattle.verdict.specs.declared.Refusal.the-variants.{Plain}
-use Rattle.fir_sinc.specs.Windows.{angle, kaiserRadicand, kaiserArgument, kaiserValue, kaiserAt}
+use Rattle.win_shapes.specs.Windows.{angle, hannAt, harrisAt, kaiserAt}
 use Rattle.verdict.specs.declared.Verdict.{Verdict}
 use Rattle.verdict.specs.declared.Verdict.the-variants as Verdict
 use Rattle.win_sampled.specs.declared.shape.Shape.{Shape}
@@ -39,13 +37,10 @@ unfoldable pub divisorOf : Symmetry → ℕ → ℕ
 divisorOf Periodic n = n
 divisorOf Symmetric n = n - 1
 
-unfoldable pub harrisAt : Float → Float
-harrisAt x = fraction 35875 100000 ⊖ fraction 48829 100000 ⊗ cosOf x ⊕ fraction 14128 100000 ⊗ cosOf (whole 2 ⊗ x) ⊖ fraction 1168 100000 ⊗ cosOf (whole 3 ⊗ x)
-
 -- i0 the series at beta, p being i and d D
 unfoldable pub shapeAt : Shape → Float → Float → Float → Float
-unfolding angle kaiserAt harrisAt
-shapeAt Hann i0 p d = fraction 1 2 ⊖ fraction 1 2 ⊗ cosOf (angle p d)
+unfolding angle hannAt harrisAt kaiserAt
+shapeAt Hann i0 p d = hannAt (angle p d)
 shapeAt BlackmanHarris i0 p d = harrisAt (angle p d)
 shapeAt (Kaiser beta) i0 p d = kaiserAt beta i0 p d
 
@@ -53,28 +48,6 @@ shapeAt (Kaiser beta) i0 p d = kaiserAt beta i0 p d
 unfoldable pub sampleAt : Shape → Float → ℕ → ℕ → Float
 unfolding shapeAt
 sampleAt shape i0 d i = cond (eqb d 0) (whole 1) (shapeAt shape i0 (whole i) (whole d))
-
--- the same in three steps: what its place gives, what its cosines or its series are taken at, and the sample by that
-unfoldable pub placeAt : Shape → ℕ → ℕ → Float
-unfolding angle kaiserRadicand
-placeAt Hann d i = angle (whole i) (whole d)
-placeAt BlackmanHarris d i = angle (whole i) (whole d)
-placeAt (Kaiser beta) d i = kaiserRadicand (whole i) (whole d)
-
-unfoldable pub argumentOf : Shape → Float → Float
-argumentOf Hann x = x
-argumentOf BlackmanHarris x = x
-argumentOf (Kaiser beta) x = kaiserArgument beta x
-
-unfoldable pub valueOf : Shape → Float → Float → Float
-unfolding harrisAt
-valueOf Hann i0 x = fraction 1 2 ⊖ fraction 1 2 ⊗ cosOf x
-valueOf BlackmanHarris i0 x = harrisAt x
-valueOf (Kaiser beta) i0 x = kaiserValue i0 x
-
-unfoldable pub valueAt : Shape → Float → ℕ → Float → Float
-unfolding valueOf
-valueAt shape i0 d x = cond (eqb d 0) (whole 1) (valueOf shape i0 x)
 
 -- sample i of n
 abbrev pub windowAt : Shape → Symmetry → ℕ → ℕ → Float

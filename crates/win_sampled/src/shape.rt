@@ -1,9 +1,13 @@
 // The shape of a window, one sample or two at a time.
 use math_bessel::Pair;
+use win_shapes::cosines;
+use win_shapes::curve;
+use win_shapes::curve::Curve;
+use win_shapes::kaiser;
 ghost use mathlib.Core.Path.{_≡_};
-ghost use Rattle.win_sampled.specs.Shapes.{shapeTaken, normOf, divisorOf, harrisAt, placeAt, argumentOf, valueOf, valueAt, sampleAt};
-
-const PI: f64 = 3.141592653589793;
+ghost use Rattle.win_shapes.specs.Steps.{argumentOf};
+ghost use Rattle.win_sampled.specs.Shapes.{shapeTaken, normOf, divisorOf, sampleAt};
+ghost use Rattle.win_sampled.specs.SampleLaws.{curveOf, placeAt, valueOf, valueAt};
 
 // Kaiser's window carries its shape, beta.
 pub enum Shape {
@@ -29,18 +33,22 @@ pub fn takes_shape(shape: Shape) -> bool
     }
 }
 
+// The curve of a window: cosines, but for Kaiser's.
+fn curve_of(shape: Shape) -> Curve
+    ensures { λ r. ⌜ r ≡ curveOf shape ⌝ }
+{
+    match shape {
+        Shape::Hann => Curve::Cosines,
+        Shape::BlackmanHarris => Curve::Cosines,
+        Shape::Kaiser(beta) => Curve::Kaiser(beta),
+    }
+}
+
 // The Bessel series at beta, by which Kaiser's window is divided; 1 for the others.
 pub fn norm(shape: Shape) -> f64
     ensures { λ r. ⌜ r ≡ normOf shape ⌝ }
 {
-    match shape {
-        Shape::Hann => 1.0,
-        Shape::BlackmanHarris => 1.0,
-        Shape::Kaiser(beta) => {
-            let s = math_bessel::bessel_i0(beta);
-            s.sum
-        }
-    }
+    curve::norm(curve_of(shape))
 }
 
 // What the place of a sample is divided by: n, or one less where the window is symmetric; 0 for none.
@@ -53,49 +61,21 @@ pub fn divisor(symmetry: Symmetry, n: u64) -> u64
     }
 }
 
-// Four terms, with the angle x.
-fn harris_at(x: f64) -> f64
-    ensures { λ r. ⌜ r ≡ harrisAt x ⌝ }
-{
-    0.35875 - 0.48829 * math_trig::cos::cos(x) + 0.14128 * math_trig::cos::cos(2.0 * x)
-        - 0.01168 * math_trig::cos::cos(3.0 * x)
-}
-
-// A sample takes three steps, for a loop that works out the arguments of the next samples before the values of these. The first has its place in it: the angle, or Kaiser's radicand, at sample i for a divisor.
+// A sample takes three steps, for a loop that works out the arguments of the next samples before the values of these.
+// The first has its place in it: the angle, or Kaiser's radicand, at sample i for a divisor.
 pub fn place_at(shape: Shape, divisor: u64, i: u64) -> f64
     ensures { λ r. ⌜ r ≡ placeAt shape divisor i ⌝ }
 {
     let d = std::num::nearest_u64_to_f64(divisor);
     let p = std::num::nearest_u64_to_f64(i);
-    match shape {
-        Shape::Hann => 2.0 * PI * p / d,
-        Shape::BlackmanHarris => 2.0 * PI * p / d,
-        Shape::Kaiser(_) => fir_sinc::window::kaiser_radicand(p, d),
-    }
+    curve::place_at(curve_of(shape), p, d)
 }
 
-// What the cosines or the series are taken at, by the first step's answer.
-pub fn argument_of(shape: Shape, place: f64) -> f64
-    ensures { λ r. ⌜ r ≡ argumentOf shape place ⌝ }
-{
-    match shape {
-        Shape::Hann => place,
-        Shape::BlackmanHarris => place,
-        Shape::Kaiser(beta) => fir_sinc::window::kaiser_argument(beta, place),
-    }
-}
-
-// The arguments of two samples, where Kaiser's roots are worked out together.
+// The second, of two samples: what the cosines or the series are taken at.
 pub fn arguments_of(shape: Shape, place: f64, other: f64) -> Pair
-    ensures { λ r. ⌜ r .first ≡ argumentOf shape place ⌝ ∗ ⌜ r .second ≡ argumentOf shape other ⌝ }
+    ensures { λ r. ⌜ r .first ≡ argumentOf (curveOf shape) place ⌝ ∗ ⌜ r .second ≡ argumentOf (curveOf shape) other ⌝ }
 {
-    match shape {
-        Shape::Kaiser(beta) => fir_sinc::window::kaiser_arguments(beta, place, other),
-        _ => Pair {
-            first: argument_of(shape, place),
-            second: argument_of(shape, other),
-        },
-    }
+    curve::arguments_of(curve_of(shape), place, other)
 }
 
 // A sample by that, where the divisor isn't 0; i0 is the series at beta.
@@ -103,9 +83,9 @@ fn value_of(shape: Shape, i0: f64, x: f64) -> f64
     ensures { λ r. ⌜ r ≡ valueOf shape i0 x ⌝ }
 {
     match shape {
-        Shape::Hann => 0.5 - 0.5 * math_trig::cos::cos(x),
-        Shape::BlackmanHarris => harris_at(x),
-        Shape::Kaiser(_) => fir_sinc::window::kaiser_value(i0, x),
+        Shape::Hann => cosines::hann(x),
+        Shape::BlackmanHarris => cosines::blackman_harris(x),
+        Shape::Kaiser(_) => kaiser::value(i0, x),
     }
 }
 
@@ -114,7 +94,7 @@ fn values_of(shape: Shape, i0: f64, x: f64, y: f64) -> Pair
     ensures { λ r. ⌜ r .first ≡ valueOf shape i0 x ⌝ ∗ ⌜ r .second ≡ valueOf shape i0 y ⌝ }
 {
     match shape {
-        Shape::Kaiser(_) => fir_sinc::window::kaiser_values(i0, x, y),
+        Shape::Kaiser(_) => kaiser::values(i0, x, y),
         _ => Pair {
             first: value_of(shape, i0, x),
             second: value_of(shape, i0, y),
@@ -155,6 +135,6 @@ pub fn sample_at(shape: Shape, i0: f64, divisor: u64, i: u64) -> f64
         shape,
         i0,
         divisor,
-        argument_of(shape, place_at(shape, divisor, i)),
+        curve::argument_of(curve_of(shape), place_at(shape, divisor, i)),
     )
 }

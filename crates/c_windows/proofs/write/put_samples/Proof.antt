@@ -6,8 +6,9 @@ use native.Mathlib.Omega.{arith}
 use lib.ListN.{length}
 use lib.Ieee.{Float}
 use Rattle.win_sampled.specs.declared.shape.Shape.{Shape}
-use Rattle.win_sampled.specs.Shapes.{sampleAt, placeAt, argumentOf, valueAt}
-use Rattle.win_sampled.specs.SampleLaws.{three-steps}
+use Rattle.win_shapes.specs.Steps.{argumentOf}
+use Rattle.win_sampled.specs.Shapes.{sampleAt}
+use Rattle.win_sampled.specs.SampleLaws.{three-steps, placeAt, valueAt, curveOf}
 use Rattle.wire.specs.Bytes.{putOf}
 use Rattle.wire.specs.WrittenPrefix.{WrittenPrefix, at-first, one-more, at-end}
 use Rattle.laws.specs.Chunks.{chunks}
@@ -18,7 +19,7 @@ use Rattle.c_windows.proofs.write.put_samples.Statement.{statement}
 use Rattle.c_windows.proofs.write.put_samples.Tie as tie
 
 -- sample i by its argument
-sampled : (shape : Shape) (i0 : Float) (d i : ℕ) {x v : Float} → x ≡ argumentOf shape (placeAt shape d i) → v ≡ valueAt shape i0 d x → v ≡ sampleAt shape i0 d i
+sampled : (shape : Shape) (i0 : Float) (d i : ℕ) {x v : Float} → x ≡ argumentOf (curveOf shape) (placeAt shape d i) → v ≡ valueAt shape i0 d x → v ≡ sampleAt shape i0 d i
 sampled shape i0 d i e f = f ∙ ap (λ (x : Float). valueAt shape i0 d x) e ∙ three-steps shape i0 d i
 
 -- the first i samples stand at the front of the buffer
@@ -46,7 +47,7 @@ module _ {s : Sample} {x : ℕ → Float} {before : List ℕ} where
         at-end (f .prefix) (rw end (full (widthOf s) (length before) whole)) tt ∙ ap (λ (k : ℕ). chunks k (λ j. sampleBytes s (x j))) end
 
 abbrev Inv-loop : tie.InvT-loop
-Inv-loop shape i0 d sample out₀ wide n x₀ y₀ i₀ out x y i = Filling sample (sampleAt shape i0 d) out₀ out i × (x ≡ argumentOf shape (placeAt shape d i)) × (y ≡ argumentOf shape (placeAt shape d (i + 1)))
+Inv-loop shape i0 d sample out₀ wide n x₀ y₀ i₀ out x y i = Filling sample (sampleAt shape i0 d) out₀ out i × (x ≡ argumentOf (curveOf shape) (placeAt shape d i)) × (y ≡ argumentOf (curveOf shape) (placeAt shape d (i + 1)))
 
 abbrev μ-loop : tie.MeasureT-loop
 μ-loop shape i0 d sample out₀ wide n x₀ y₀ i₀ out x y i = n - i
@@ -83,8 +84,8 @@ loop-holds : tie.Need-loop-holds Inv-loop μ-loop
 loop-holds c =
     let a = c .before .before .before .before .before .args in (
       fill-start,
-      c .arguments-of .ensures .0 ∙ ap (λ (p : Float). argumentOf (a .shape) p) (c .before .before .place-at .ensures),
-      c .arguments-of .ensures .1 ∙ ap (λ (p : Float). argumentOf (a .shape) p) (c .before .place-at2 .ensures),
+      c .arguments-of .ensures .0 ∙ ap (λ (p : Float). argumentOf (curveOf (a .shape)) p) (c .before .before .place-at .ensures),
+      c .arguments-of .ensures .1 ∙ ap (λ (p : Float). argumentOf (curveOf (a .shape)) p) (c .before .place-at2 .ensures),
     )
 
 add-loop : tie.Need-add-loop Inv-loop μ-loop
@@ -146,8 +147,8 @@ loop-again c =
     let one = fill-next (at .loop .inv .0) (wide at) (omega arith) (sampled (a .shape) (a .i0) (a .d) i (at .loop .inv .1) (v .0)) (c .before .before .before .before .before .before .store .ensures) in
     let both = fill-next one (wide at) (omega arith) (sampled (a .shape) (a .i0) (a .d) (i + 1) (at .loop .inv .2) (v .1)) (c .before .before .store2 .ensures) in (
       rw two both,
-      next .0 ∙ ap (λ (p : Float). argumentOf (a .shape) p) (c .before .before .before .before .before .before .before .before .before .before .before .place-at3 .ensures),
-      next .1 ∙ ap (λ (p : Float). argumentOf (a .shape) p) (c .before .before .before .before .before .before .before .before .before .before .place-at4 .ensures ∙ ap (λ (k : ℕ). placeAt (a .shape) (a .d) k) three),
+      next .0 ∙ ap (λ (p : Float). argumentOf (curveOf (a .shape)) p) (c .before .before .before .before .before .before .before .before .before .before .before .place-at3 .ensures),
+      next .1 ∙ ap (λ (p : Float). argumentOf (curveOf (a .shape)) p) (c .before .before .before .before .before .before .before .before .before .before .place-at4 .ensures ∙ ap (λ (k : ℕ). placeAt (a .shape) (a .d) k) three),
     )
 
 mul-store-3 : tie.Need-mul-store-3 Inv-loop μ-loop

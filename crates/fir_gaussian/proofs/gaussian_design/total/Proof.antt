@@ -5,8 +5,8 @@ use Prim.Native.Nat.{ℕ, _+_, _≤_, _-_}
 use native.Mathlib.Omega.{arith}
 use lib.ListN.{length, length-set}
 use lib.Ieee.{Float, binary64, add}
-use Rattle.fir_sinc.specs.Kept.{Totals}
-use Rattle.fir_sinc.specs.KeptLaws.{totals-none, totals-more}
+use Rattle.fir_cache.specs.Cached.{Totals}
+use Rattle.fir_cache.specs.CachedLaws.{totals-none, totals-more}
 use Rattle.fir_gaussian.specs.Gaussian.{rawAt}
 use Rattle.fir_gaussian.proofs.gaussian_design.total.Statement.{statement}
 use Rattle.fir_gaussian.proofs.gaussian_design.total.Tie as tie

@@ -8,7 +8,7 @@ use Rattle.laws.specs.Binary64.{_⊘_}
 use Rattle.laws.specs.Sums.{sumTo}
 use Rattle.math_numbers.specs.Numbers.{positive}
 use Rattle.fir_sinc.specs.Taps.{rawAt}
-use Rattle.fir_sinc.specs.Kept.{Totals}
+use Rattle.fir_cache.specs.Cached.{Totals}
 use Rattle.fir_lowpass.specs.Lowpass.{divisorOf, inside, countTaken, betaTaken, usable}
 use Rattle.fir_lowpass.specs.LowpassLaws.{count-most, ready, no-divisor, no-beta, no-count, no-cutoff, no-rate, refuses, accepts}
 use Rattle.fir_lowpass.proofs.lowpass.prepare.Statement.{statement}

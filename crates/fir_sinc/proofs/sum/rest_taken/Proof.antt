@@ -3,7 +3,7 @@ use mathlib.Core.Path.{refl}
 use Prim.Native.Nat.{_-_}
 use native.Mathlib.Omega.{arith}
 use Rattle.fir_sinc.specs.Taps.{rawAt}
-use Rattle.fir_sinc.specs.KeptLaws.{Sofar, taken, all}
+use Rattle.fir_cache.specs.CachedLaws.{Sofar, taken, all}
 use Rattle.fir_sinc.proofs.sum.rest_taken.Statement.{statement}
 use Rattle.fir_sinc.proofs.sum.rest_taken.Tie as tie
 

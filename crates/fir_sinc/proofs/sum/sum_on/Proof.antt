@@ -2,8 +2,8 @@
 use mathlib.Core.Path.{_≡_, subst}
 use Prim.Native.Nat.{ℕ, _-_, _≤_}
 use native.Mathlib.Omega.{arith}
-use Rattle.fir_sinc.specs.Kept.{Adds}
-use Rattle.fir_sinc.specs.KeptLaws.{adds-more}
+use Rattle.fir_cache.specs.Cached.{Adds}
+use Rattle.fir_cache.specs.CachedLaws.{adds-more}
 use Rattle.fir_sinc.proofs.sum.sum_on.Statement.{statement}
 use Rattle.fir_sinc.proofs.sum.sum_on.Tie as tie
 

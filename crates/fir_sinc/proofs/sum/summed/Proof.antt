@@ -3,17 +3,17 @@ use mathlib.Core.Path.{_≡_, refl, ap, _∙_}
 use Prim.Native.Nat.{ℕ, _+_, _-_}
 use native.Mathlib.Omega.{arith}
 use lib.Ieee.{Float}
-use Rattle.fir_sinc.specs.Windows.{placeAt, argumentOf}
-use Rattle.fir_sinc.specs.StepLaws.{windowed, raw-is}
+use Rattle.win_shapes.specs.Steps.{argumentOf}
+use Rattle.fir_sinc.specs.StepLaws.{placeAt, curveOf, windowed, raw-is}
 use Rattle.fir_sinc.specs.Taps.{idealAt, rawAt}
-use Rattle.fir_sinc.specs.KeptLaws.{Sofar, totals-none}
+use Rattle.fir_cache.specs.CachedLaws.{Sofar, totals-none}
 use Rattle.fir_sinc.specs.Waiting.{Planned, Images, two-more, waits-none}
 use Rattle.fir_sinc.proofs.sum.summed.Statement.{statement}
 use Rattle.fir_sinc.proofs.sum.summed.Tie as tie
 
 abbrev Inv-loop : tie.InvT-loop
 Inv-loop fc w i0 n raws₀ front last half x₀ y₀ sum₀ i₀ raws x y sum i =
-    Planned n front last half × Sofar (rawAt fc w i0 n) n raws₀ raws sum i × Images (idealAt fc n) last i raws × (x ≡ argumentOf w (placeAt w n i)) × (y ≡ argumentOf w (placeAt w n (i + 1)))
+    Planned n front last half × Sofar (rawAt fc w i0 n) n raws₀ raws sum i × Images (idealAt fc n) last i raws × (x ≡ argumentOf (curveOf w) (placeAt w n i)) × (y ≡ argumentOf (curveOf w) (placeAt w n (i + 1)))
 
 abbrev μ-loop : tie.MeasureT-loop
 μ-loop fc w i0 n raws₀ front last half x₀ y₀ sum₀ i₀ raws x y sum i = n - i
@@ -36,8 +36,8 @@ loop-holds c =
       c .before .before .before .plan-of .ensures,
       record { within = omega arith; same = refl; totals = totals-none (rawAt (a .fc) (a .w) (a .i0) (a .n)) (a .raws .now) },
       λ k l m. absurd (omega arith),
-      c .arguments-of .ensures .0 ∙ ap (λ (p : Float). argumentOf (a .w) p) (c .before .before .place-at .ensures),
-      c .arguments-of .ensures .1 ∙ ap (λ (p : Float). argumentOf (a .w) p) (c .before .place-at2 .ensures),
+      c .arguments-of .ensures .0 ∙ ap (λ (p : Float). argumentOf (curveOf (a .w)) p) (c .before .before .place-at .ensures),
+      c .arguments-of .ensures .1 ∙ ap (λ (p : Float). argumentOf (curveOf (a .w)) p) (c .before .place-at2 .ensures),
     )
 
 add-loop : tie.Need-add-loop Inv-loop μ-loop
@@ -99,8 +99,8 @@ loop-again c =
       t .0,
       two .0,
       two .1,
-      next .0 ∙ ap (λ (p : Float). argumentOf (a .w) p) (c .before .before .before .before .before .before .before .before .before .before .before .place-at3 .ensures),
-      next .1 ∙ ap (λ (p : Float). argumentOf (a .w) p) (c .before .before .before .before .before .before .before .before .before .before .place-at4 .ensures ∙ ap (λ (k : ℕ). placeAt (a .w) (a .n) k) three),
+      next .0 ∙ ap (λ (p : Float). argumentOf (curveOf (a .w)) p) (c .before .before .before .before .before .before .before .before .before .before .before .place-at3 .ensures),
+      next .1 ∙ ap (λ (p : Float). argumentOf (curveOf (a .w)) p) (c .before .before .before .before .before .before .before .before .before .before .place-at4 .ensures ∙ ap (λ (k : ℕ). placeAt (a .w) (a .n) k) three),
     )
 
 rest-kept-requires : tie.Need-rest-kept-requires Inv-loop μ-loop

@@ -5,8 +5,8 @@ use native.Mathlib.Omega.{arith}
 use borrow.Author.Needs.{needs}
 use lib.Ieee.{ofBits, ofInt, binary64}
 use Rattle.fir_sinc.specs.Taps.{rawAt}
-use Rattle.fir_sinc.specs.Kept.{Totals}
-use Rattle.fir_sinc.specs.KeptLaws.{totals-none}
+use Rattle.fir_cache.specs.Cached.{Totals}
+use Rattle.fir_cache.specs.CachedLaws.{totals-none}
 use Rattle.fir_sinc.proofs.sum.total.Statement.{statement}
 use Rattle.fir_sinc.proofs.sum.total.Tie as tie
 

@@ -3,8 +3,8 @@ use mathlib.Core.Path.{_≡_, ap, _∙_}
 use native.Mathlib.Omega.{arith}
 use borrow.Author.Needs.{needs}
 use lib.Ieee.{Float}
-use Rattle.fir_sinc.specs.Windows.{argumentOf}
-use Rattle.fir_sinc.specs.StepLaws.{windowed}
+use Rattle.win_shapes.specs.Steps.{argumentOf}
+use Rattle.fir_sinc.specs.StepLaws.{curveOf, windowed}
 use Rattle.fir_sinc.proofs.sum.windows_at.Statement.{statement}
 use Rattle.fir_sinc.proofs.sum.windows_at.Tie as tie
 
@@ -27,8 +27,8 @@ returns c =
     let many : a .n ≡ 1 → ⊥ = λ (e : a .n ≡ 1). omega (arith, at .pre .0) in
     let x = c .before .arguments-of .ensures in
     let v = c .values-of .ensures in (
-      windowed (a .w) (a .i0) (a .n) (a .i) many (x .0 ∙ ap (λ (p : Float). argumentOf (a .w) p) (c .before .before .before .place-at .ensures)) (v .0),
-      windowed (a .w) (a .i0) (a .n) (a .j) many (x .1 ∙ ap (λ (p : Float). argumentOf (a .w) p) (c .before .before .place-at2 .ensures)) (v .1),
+      windowed (a .w) (a .i0) (a .n) (a .i) many (x .0 ∙ ap (λ (p : Float). argumentOf (curveOf (a .w)) p) (c .before .before .before .place-at .ensures)) (v .0),
+      windowed (a .w) (a .i0) (a .n) (a .j) many (x .1 ∙ ap (λ (p : Float). argumentOf (curveOf (a .w)) p) (c .before .before .place-at2 .ensures)) (v .1),
     )
 
 pub windows-at-spec : {M : Type 1} → statement M

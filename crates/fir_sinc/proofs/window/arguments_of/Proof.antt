@@ -1,39 +1,23 @@
--- `fir_sinc::window::arguments_of` meets its contract. Kaiser's are worked out together, the others each by itself. Assumes nothing.
-use mathlib.Core.Path.{sym, _∙_}
+-- `fir_sinc::window::arguments_of` meets its contract. Assumes nothing.
+use mathlib.Core.Path.{ap, _∙_}
+use Rattle.win_shapes.specs.declared.curve.Curve.{Curve}
+use Rattle.win_shapes.specs.Steps.{argumentOf}
 use borrow.Author.Needs.{needs}
-use Rattle.fir_sinc.specs.Windows.{argumentOf}
 use Rattle.fir_sinc.proofs.window.arguments_of.Statement.{statement}
 use Rattle.fir_sinc.proofs.window.arguments_of.Tie as tie
 
-enum-known-w : tie.Need-enum-known-w
-enum-known-w c = search needs
+curve-of-requires : tie.Need-curve-of-requires
+curve-of-requires c κs = search needs
 
-kaiser-arguments-requires : tie.Need-kaiser-arguments-requires
-kaiser-arguments-requires c κs = search needs
-
-argument-of-requires : tie.Need-argument-of-requires
-argument-of-requires c κs = search needs
-
-argument-of-requires-2 : tie.Need-argument-of-requires-2
-argument-of-requires-2 c κs = search needs
+arguments-of-requires : tie.Need-arguments-of-requires
+arguments-of-requires c κs = search needs
 
 returns : tie.Need-returns
-unfolding argumentOf
 returns c =
-    let k = c .before .before .w .given .1 in
-    let v = c .kaiser-arguments .ensures in
-    (v .0 ∙ sym (rw k), v .1 ∙ sym (rw k))
-
-returns-2 : tie.Need-returns-2
-returns-2 c = search needs
+    let a = c .before .before .args in
+    let k = c .before .curve-of .ensures in
+    let v = c .arguments-of .ensures in
+    (v .0 ∙ ap (λ (z : Curve). argumentOf z (a .place)) k, v .1 ∙ ap (λ (z : Curve). argumentOf z (a .other)) k)
 
 pub arguments-of-spec : {M : Type 1} → statement M
-arguments-of-spec =
-    tie.close
-    (tie.spec
-    enum-known-w
-    kaiser-arguments-requires
-    argument-of-requires
-    argument-of-requires-2
-    returns
-    returns-2)
+arguments-of-spec = tie.close (tie.spec curve-of-requires arguments-of-requires returns)

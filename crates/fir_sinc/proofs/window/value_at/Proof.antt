@@ -3,7 +3,7 @@ use mathlib.Core.Path.{sym, _∙_}
 use borrow.Author.Tests.{eq-eqb, ne-eqb}
 use borrow.Author.Needs.{needs}
 use lib.Ieee.{ofBits, ofInt}
-use Rattle.fir_sinc.specs.Windows.{valueAt}
+use Rattle.fir_sinc.specs.StepLaws.{valueAt}
 use Rattle.fir_sinc.proofs.window.value_at.Statement.{statement}
 use Rattle.fir_sinc.proofs.window.value_at.Tie as tie
 

@@ -1,15 +1,15 @@
 -- `fir_sinc::window::values_of` meets its contract. Kaiser's are worked out together, the others each by itself. Assumes nothing.
 use mathlib.Core.Path.{sym, _∙_}
 use borrow.Author.Needs.{needs}
-use Rattle.fir_sinc.specs.Windows.{valueOf}
+use Rattle.fir_sinc.specs.StepLaws.{valueOf}
 use Rattle.fir_sinc.proofs.window.values_of.Statement.{statement}
 use Rattle.fir_sinc.proofs.window.values_of.Tie as tie
 
 enum-told : tie.Need-enum-told
 enum-told c = search needs
 
-kaiser-values-requires : tie.Need-kaiser-values-requires
-kaiser-values-requires c κs = search needs
+values-requires : tie.Need-values-requires
+values-requires c κs = search needs
 
 value-of-requires : tie.Need-value-of-requires
 value-of-requires c κs = search needs
@@ -21,7 +21,7 @@ returns : tie.Need-returns
 unfolding valueOf
 returns c =
     let k = c .before .enum-told .given .1 in
-    let v = c .kaiser-values .ensures in
+    let v = c .values .ensures in
     (v .0 ∙ sym (rw k), v .1 ∙ sym (rw k))
 
 returns-2 : tie.Need-returns-2
@@ -32,7 +32,7 @@ values-of-spec =
     tie.close
     (tie.spec
     enum-told
-    kaiser-values-requires
+    values-requires
     value-of-requires
     value-of-requires-2
     returns

@@ -1,39 +1,23 @@
--- `win_sampled::shape::arguments_of` meets its contract. Kaiser's are worked out together, the others each by itself. Assumes nothing.
-use mathlib.Core.Path.{sym, _∙_}
+-- `win_sampled::shape::arguments_of` meets its contract. Assumes nothing.
+use mathlib.Core.Path.{ap, _∙_}
+use Rattle.win_shapes.specs.declared.curve.Curve.{Curve}
+use Rattle.win_shapes.specs.Steps.{argumentOf}
 use borrow.Author.Needs.{needs}
-use Rattle.win_sampled.specs.Shapes.{argumentOf}
 use Rattle.win_sampled.proofs.shape.arguments_of.Statement.{statement}
 use Rattle.win_sampled.proofs.shape.arguments_of.Tie as tie
 
-enum-known-shape : tie.Need-enum-known-shape
-enum-known-shape c = search needs
+curve-of-requires : tie.Need-curve-of-requires
+curve-of-requires c κs = search needs
 
-kaiser-arguments-requires : tie.Need-kaiser-arguments-requires
-kaiser-arguments-requires c κs = search needs
-
-argument-of-requires : tie.Need-argument-of-requires
-argument-of-requires c κs = search needs
-
-argument-of-requires-2 : tie.Need-argument-of-requires-2
-argument-of-requires-2 c κs = search needs
+arguments-of-requires : tie.Need-arguments-of-requires
+arguments-of-requires c κs = search needs
 
 returns : tie.Need-returns
-unfolding argumentOf
 returns c =
-    let k = c .before .before .shape .given .1 in
-    let v = c .kaiser-arguments .ensures in
-    (v .0 ∙ sym (rw k), v .1 ∙ sym (rw k))
-
-returns-2 : tie.Need-returns-2
-returns-2 c = search needs
+    let a = c .before .before .args in
+    let k = c .before .curve-of .ensures in
+    let v = c .arguments-of .ensures in
+    (v .0 ∙ ap (λ (z : Curve). argumentOf z (a .place)) k, v .1 ∙ ap (λ (z : Curve). argumentOf z (a .other)) k)
 
 pub arguments-of-spec : {M : Type 1} → statement M
-arguments-of-spec =
-    tie.close
-    (tie.spec
-    enum-known-shape
-    kaiser-arguments-requires
-    argument-of-requires
-    argument-of-requires-2
-    returns
-    returns-2)
+arguments-of-spec = tie.close (tie.spec curve-of-requires arguments-of-requires returns)

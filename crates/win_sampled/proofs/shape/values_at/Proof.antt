@@ -3,7 +3,7 @@ use mathlib.Core.Path.{sym, _∙_}
 use borrow.Author.Tests.{eq-eqb, ne-eqb}
 use borrow.Author.Needs.{needs}
 use lib.Ieee.{ofBits, ofInt}
-use Rattle.win_sampled.specs.Shapes.{valueAt}
+use Rattle.win_sampled.specs.SampleLaws.{valueAt}
 use Rattle.win_sampled.proofs.shape.values_at.Statement.{statement}
 use Rattle.win_sampled.proofs.shape.values_at.Tie as tie
 

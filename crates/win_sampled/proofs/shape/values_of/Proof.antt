@@ -2,15 +2,15 @@
 use mathlib.Core.Path.{sym, ap, _∙_}
 use borrow.Author.Needs.{needs}
 use Rattle.win_sampled.specs.declared.shape.Shape.{Shape}
-use Rattle.win_sampled.specs.Shapes.{valueOf}
+use Rattle.win_sampled.specs.SampleLaws.{valueOf}
 use Rattle.win_sampled.proofs.shape.values_of.Statement.{statement}
 use Rattle.win_sampled.proofs.shape.values_of.Tie as tie
 
 enum-told : tie.Need-enum-told
 enum-told c = search needs
 
-kaiser-values-requires : tie.Need-kaiser-values-requires
-kaiser-values-requires c κs = search needs
+values-requires : tie.Need-values-requires
+values-requires c κs = search needs
 
 value-of-requires : tie.Need-value-of-requires
 value-of-requires c κs = search needs
@@ -23,7 +23,7 @@ unfolding valueOf
 returns c =
     let a = c .before .before .before .args in
     let k = sym (c .before .enum-told .given .1) in
-    let v = c .kaiser-values .ensures in
+    let v = c .values .ensures in
     (v .0 ∙ ap (λ (s : Shape). valueOf s (a .i0) (a .x)) k, v .1 ∙ ap (λ (s : Shape). valueOf s (a .i0) (a .y)) k)
 
 returns-2 : tie.Need-returns-2
@@ -34,7 +34,7 @@ values-of-spec =
     tie.close
     (tie.spec
     enum-told
-    kaiser-values-requires
+    values-requires
     value-of-requires
     value-of-requires-2
     returns

@@ -1,0 +1,2 @@
+pub mod Cached
+pub mod CachedLaws
