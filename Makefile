@@ -10,11 +10,11 @@ EXPORTS = c_lowpass c_pulses c_windows c_formats c_sections c_math c_gain
 JOBS = $(shell nproc 2>/dev/null || echo 1)
 # All crates that those rest on, by crates.txt.
 BELOW = $(shell for crate in $(EXPORTS); do sed -n "s/^$$crate://p" crates.txt; done | tr ' ' '\n' | sort -u)
-DESIGN = tools/design.c tools/kinds.c tools/forms.c tools/words.c tools/help.c tools/files.c tools/picture.c tools/plot.c tools/response.c
-# Where `make install` puts things, below DESTDIR if that is said, and the version that pkg-config tells.
+DESIGN = $(addprefix tools/,design.c kinds.c forms.c words.c help.c files.c name.c picture.c plot.c response.c)
+# Where `make install` puts things, below DESTDIR if that is said, and the header's version.
 PREFIX ?= /usr/local
 DESTDIR ?=
-VERSION = 0.1.0
+VERSION = $(shell sed -n 's/^.define PEL_VERSION "\(.*\)"$$/\1/p' include/peldozkar.h)
 SOURCES = $(shell find crates -name '*.rt' -o -name '*.antt') crates.txt
 
 .PHONY: run functions test lib install uninstall c tool examples compare day bench list distance clean rust scipy
@@ -43,19 +43,21 @@ $(LIB): $(SOURCES) tools/object
 	printf '%s\n' $(EXPORTS) | xargs -P $(JOBS) -I{} tools/object {}
 	cd target/lib && ar rcs libpeldozkar.a $(EXPORTS:=.o)
 
-# The library, the header and a file for pkg-config below PREFIX: all three, or none with the reason.
-install: $(LIB)
-	tools/install '$(LIB)' '$(VERSION)' '$(PREFIX)' '$(DESTDIR)'
+# The library, the header, files for pkg-config and CMake, the command line and its manual page below PREFIX: all of
+# them, or none with the reason.
+install: $(LIB) target/tools/design
+	tools/install '$(LIB)' target/tools/design '$(VERSION)' '$(PREFIX)' '$(DESTDIR)'
 
 # Takes them away again.
 uninstall:
 	tools/install --remove '$(PREFIX)' '$(DESTDIR)'
 
+# Under another name first: two parts of the tests may make it at once, and run it.
 target/tools/design target/tools/functions: target/tools/%: tools/%.c include/peldozkar.h $(LIB)
 	mkdir -p target/tools
-	$(CC) $(CFLAGS) $(STRICT) $(filter %.c,$^) -o $@ $(LIB) -lm
+	$(CC) $(CFLAGS) $(STRICT) $(filter %.c,$^) -o $@.$$$$ $(LIB) -lm && mv -f $@.$$$$ $@
 
-target/tools/design: $(DESIGN) tools/kinds.h tools/forms.h tools/words.h tools/help.h tools/files.h tools/picture.h tools/plot.h tools/response.h
+target/tools/design: $(DESIGN) $(addprefix tools/,kinds.h forms.h words.h help.h files.h name.h picture.h plot.h response.h)
 
 # The exports called from C, under the address and undefined-behaviour sanitizers.
 c: $(LIB)

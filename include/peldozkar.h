@@ -1,25 +1,35 @@
 /* Peldozkar's filter designer: the functions that firmware calls.
  *
- * Link with libpeldozkar.a, which `make lib` writes. Each function is proved to give the value that is
- * said here for every argument, NaN, infinities, zeros of both signs, subnormal numbers and
- * impossible counts included; it allocates nothing, keeps nothing, calls
- * nothing but memset and always returns.
- * On the stack pel_lowpass, pel_spec_design, pel_halfband, pel_gaussian and pel_channelizer_prototype take
- * 9,120 bytes at most, the others under 1 KB (x86-64); the table of functions in the README has the bytes of each.
+ * Link with libpeldozkar.a, which `make lib` writes; it is for x86-64 today. Each function is proved to give the value
+ * that is said here for every argument, NaN, infinities, zeros of both signs, subnormal numbers and impossible counts
+ * included; it allocates nothing, keeps nothing, calls nothing but memset and always returns. On the stack pel_lowpass,
+ * pel_spec_design, pel_halfband, pel_gaussian and pel_channelizer_prototype take under 9 KB, the others under 1 KB;
+ * docs/FUNCTIONS.md has the bytes of each.
  *
- * The bits are the same on every reader: each operation is rounded once to a double, to the nearest,
- * ties to even. A NaN's sign and payload are free.
+ * The bits are the same on every reader: each operation is rounded once to a double, to the nearest, ties to even. A
+ * NaN's sign and payload are free.
  *
- * A ticket, the numbers of one design and the buffer for it, is filled completely or refused by number
- * with its buffer as it came. A buffer is bytes, eight to a tap, little-endian, at any alignment. The
- * caller owes what a C caller always owes: `bytes` bytes at `out` that nobody else uses meanwhile, and
- * a pointer that isn't null, also where `bytes` is 0.
+ * For that the caller owes the floating-point environment that a C program starts with: rounding to nearest, no
+ * flush-to-zero and no denormals-are-zero, exceptions masked. In another one nothing said here holds: where rounding is
+ * toward zero, two Hann taps are accepted that must be refused; where it is upward, 146 of the 147 taps of a
+ * specification are others. Status flags may be raised: a low-pass of one tap raises "invalid".
+ *
+ * A ticket, the numbers of one design and the buffer for it, is filled completely or refused by number with its buffer
+ * as it came. A buffer is bytes, eight to a tap, little-endian, at any alignment. The caller owes what a C caller
+ * always owes: `bytes` bytes at `out` that nobody else uses meanwhile, and a pointer that isn't null, also where
+ * `bytes` is 0.
  */
 #ifndef PELDOZKAR_H
 #define PELDOZKAR_H
 
 #include <stddef.h>
 #include <stdint.h>
+
+/* The version of this header and of the library that comes with it. */
+#define PEL_VERSION_MAJOR 0
+#define PEL_VERSION_MINOR 2
+#define PEL_VERSION_PATCH 0
+#define PEL_VERSION "0.2.0"
 
 #ifdef __cplusplus
 extern "C" {
@@ -54,27 +64,32 @@ double pel_pow04(double v);
 
 /* ---- What a designer answers ------------------------------------------------------------------ */
 
-/* `number` is 0 where the ticket is accepted, and then `count` and `value` are the results. Otherwise it
- * is the refusal's number, and `carries` says which of the next fields belong to it. A field that does
- * not apply is 0.
- *
- *   number  who caused it            what is wrong
- *   1       the ticket's author      the rate
- *   2                                the cutoff, the centre or a band edge
- *   3                                the transition, or a length past 2^24 taps
- *   4                                the attenuation or beta
- *   5                                the bandwidth bt, the roll-off, the quality q or the time constant
- *   6                                a count: taps, order, span, samples, channels or branch
- *   7                                an unknown code, or a response that a Butterworth filter hasn't
- *   8       the host program         the buffer's length
- *   9                                max_taps is below the number of taps needed
- *   10      arithmetic               the sum that the taps are divided by is 0 or not finite
- *   11                               an element that Q15 or Q14 can't take
- */
+/* The refusals by number, and what is wrong. Later versions add numbers, 12 and up: a caller must treat every number
+ * but PEL_ACCEPTED as a refusal, those that it doesn't know included. */
+enum {
+    PEL_ACCEPTED = 0,
+    /* The ticket's author caused it. */
+    PEL_BAD_RATE = 1,        /* the rate */
+    PEL_BAD_FREQUENCY = 2,   /* the cutoff, the centre or a band edge */
+    PEL_BAD_TRANSITION = 3,  /* the transition, or a length past 2^24 taps */
+    PEL_BAD_ATTENUATION = 4, /* the attenuation or beta */
+    PEL_BAD_SHAPE = 5,       /* the bandwidth bt, the roll-off, the quality q or the time constant */
+    PEL_BAD_COUNT = 6,       /* a count: taps, order, span, samples, channels or branch */
+    PEL_BAD_CODE = 7,        /* an unknown code, or a response that a Butterworth filter hasn't */
+    /* The host program caused it. */
+    PEL_BAD_LENGTH = 8,    /* the buffer's length */
+    PEL_TOO_MANY_TAPS = 9, /* max_taps is below the number of taps needed */
+    /* Arithmetic caused it. */
+    PEL_BAD_SUM = 10,    /* the sum that the taps are divided by is 0 or not finite */
+    PEL_BAD_ELEMENT = 11 /* an element that Q15 or Q14 can't take */
+};
+
+/* `number` is PEL_ACCEPTED where the ticket is accepted, and then `count` and `value` are the results. Otherwise it is
+ * the refusal's number, and `carries` says which of the next fields belong to it. A field that does not apply is 0. */
 typedef struct {
     uint32_t number;
-    uint32_t carries;  /* PEL_NOTHING and so on */
-    double smallest;   /* PEL_RANGE, PEL_CAP, PEL_ELEMENT: the range, */
+    uint32_t carries; /* PEL_NOTHING and so on */
+    double smallest;  /* PEL_RANGE, PEL_CAP, PEL_ELEMENT: the range, */
     double largest;
     double offered;    /* and the value that was offered */
     uint64_t expected; /* PEL_LENGTH: the length expected; PEL_CAP: the taps needed */
@@ -137,7 +152,7 @@ pel_report pel_lowpass_new(double cutoff, double rate, uint64_t window, double b
  *   8   (pel_spec_design) bytes isn't a multiple of 8, both figures in bytes
  *   1   a rate that isn't finite and positive
  *   3   (0, rate/2, transition) where the transition isn't finite and positive
- *   2   (0, (rate - transition)/2, cutoff) where the cutoff isn't above 0 and at most that
+ *   2   (0, rate/2 - transition/2, cutoff), each operation rounded, where the cutoff isn't above 0 and at most that
  *   4, 3, 3  as pel_kaiserord
  *   9   max_taps is below the taps needed (expected)
  *   8   (pel_spec_design) the buffer isn't that many taps: expected and given in taps

@@ -11,6 +11,7 @@
 #include "files.h"
 #include "help.h"
 #include "kinds.h"
+#include "name.h"
 
 /* Exit statuses beside the refusals' numbers: the words were wrong, the machine failed. */
 enum { USAGE = 64, FAILED = 74 };
@@ -31,7 +32,8 @@ static void say_forms(FILE *to, unsigned set)
 /* The kinds, one a line. */
 static void list_kinds(FILE *to)
 {
-    fputs("usage: design KIND OPTIONS\n       design KIND --help\n\n", to);
+    const char *name = program_name();
+    fprintf(to, "usage: %s KIND OPTIONS\n       %s KIND --help\n       %s --version\n\n", name, name, name);
     for (size_t k = 0; k < KINDS; k++)
         if (k == 0 || strcmp(kinds[k].name, kinds[k - 1].name) != 0)
             fprintf(to, "  %-17s %s\n", kinds[k].name, help_for(kinds[k].name)->summary);
@@ -47,7 +49,7 @@ static void usage(FILE *to, const char *name)
     }
     for (size_t k = 0; k < KINDS; k++)
         if (strcmp(name, kinds[k].name) == 0) {
-            fprintf(to, "%-6s design %s %s", lead, kinds[k].name, kinds[k].usage);
+            fprintf(to, "%-6s %s %s %s", lead, program_name(), kinds[k].name, kinds[k].usage);
             say_forms(to, form_options(kinds[k].forms));
             lead = "";
         }
@@ -58,7 +60,8 @@ static void help(FILE *to, const char *name)
 {
     const struct help *h = help_for(name);
     usage(to, name);
-    fprintf(to, "\n%s: %s\n\n%s%s\nexample:\n  design %s\n", name, h->summary, h->options, every_help, h->example);
+    fprintf(to, "\n%s: %s\n\n%s%s\nexample:\n", name, h->summary, h->options, every_help);
+    fprintf(to, "  %s %s\n", program_name(), h->example);
 }
 
 /* What is wrong with the words, as printf has it, and the usage of the kind. */
@@ -66,7 +69,7 @@ static int complain(const char *kind, const char *format, ...)
 {
     va_list words;
     va_start(words, format);
-    fputs("design: ", stderr);
+    fprintf(stderr, "%s: ", program_name());
     vfprintf(stderr, format, words);
     fputc('\n', stderr);
     va_end(words);
@@ -78,21 +81,21 @@ static int complain(const char *kind, const char *format, ...)
 static const char *common_meaning(uint32_t number)
 {
     switch (number) {
-    case 1:
+    case PEL_BAD_RATE:
         return "the rate must be finite and positive";
-    case 3:
+    case PEL_BAD_TRANSITION:
         return "the transition must be finite and positive, and wide enough for 2^24 taps";
-    case 4:
+    case PEL_BAD_ATTENUATION:
         return "the attenuation must be finite, and 8 dB or more";
-    case 7:
+    case PEL_BAD_CODE:
         return "the window code is unknown";
-    case 8:
+    case PEL_BAD_LENGTH:
         return "the buffer's length is wrong";
-    case 9:
+    case PEL_TOO_MANY_TAPS:
         return "more taps are needed than --max-taps allows";
-    case 10:
+    case PEL_BAD_SUM:
         return "the sum that the taps are divided by is zero or not finite: too few taps, or beta too large";
-    case 11:
+    case PEL_BAD_ELEMENT:
         return "a tap is too large for Q15";
     default:
         return "the ticket is refused";
@@ -111,7 +114,7 @@ static int explain(const struct kind *k, const struct ticket *t, pel_report r)
     const char *meaning = k->meaning(t, &r);
     if (meaning == NULL)
         meaning = common_meaning(r.number);
-    fprintf(stderr, "design: refused with %" PRIu32 ": %s", r.number, meaning);
+    fprintf(stderr, "%s: refused with %" PRIu32 ": %s", program_name(), r.number, meaning);
     if (r.carries == PEL_RANGE || r.carries == PEL_ELEMENT) {
         if (r.carries == PEL_ELEMENT)
             fprintf(stderr, " (index %" PRIu64, r.index);
@@ -133,7 +136,7 @@ static int explain(const struct kind *k, const struct ticket *t, pel_report r)
 /* What the numbers were made from, as the words that make them again. */
 static void say_origin(FILE *to, const struct kind *k, const struct ticket *t)
 {
-    fprintf(to, "/* design %s", k->name);
+    fprintf(to, "/* %s %s", program_name(), k->name);
     say_options(to, t, ~(unsigned)EVERY, " ", 0);
     fputs(" */\n", to);
 }
@@ -160,7 +163,7 @@ static int plot(struct file *to, const struct kind *k, const struct ticket *t, c
 {
     double *numbers = malloc(n * sizeof *numbers + 1);
     if (numbers == NULL) {
-        fprintf(stderr, "design: no memory for the picture of %zu %s\n", n, k->numbers);
+        fprintf(stderr, "%s: no memory for the picture of %zu %s\n", program_name(), n, k->numbers);
         return FAILED;
     }
     worth(f, bytes, n, numbers);
@@ -172,7 +175,7 @@ static int plot(struct file *to, const struct kind *k, const struct ticket *t, c
     const char *wrong = draw_subject(to->to, &s);
     free(numbers);
     if (wrong != NULL) {
-        fprintf(stderr, "design: can't draw %s: %s\n", t->plot, wrong);
+        fprintf(stderr, "%s: can't draw %s: %s\n", program_name(), t->plot, wrong);
         drop_file(to);
         return USAGE;
     }
@@ -205,11 +208,11 @@ static int fill_and_print(const struct kind *k, const struct ticket *t, const st
 {
     uint8_t *printed = room;
     pel_report r = k->fill(t, room, n * f->filled);
-    if (r.number == 0 && f->convert != NULL) {
+    if (r.number == PEL_ACCEPTED && f->convert != NULL) {
         printed = room + n * f->filled;
         r = f->convert(room, n * f->filled, printed, n * f->converted);
     }
-    if (r.number != 0)
+    if (r.number != PEL_ACCEPTED)
         return explain(k, t, r);
     return put_out(k, t, f, printed, n);
 }
@@ -225,16 +228,16 @@ static int design(const struct kind *k, struct ticket *t)
 {
     /* Judged first, so that an impossible count is a refusal and not a want of memory. */
     pel_report r = k->judge(t);
-    if (r.number != 0)
+    if (r.number != PEL_ACCEPTED)
         return explain(k, t, r);
     if (r.count == 0 && t->form == AS_C) {
-        fprintf(stderr, "design: a C array needs one element or more, and there are no %s\n", k->numbers);
+        fprintf(stderr, "%s: a C array needs one element or more, and there are no %s\n", program_name(), k->numbers);
         return USAGE;
     }
     const struct form *f = form_for(k->forms, t->given);
     uint8_t *room = room_for(r.count, f);
     if (room == NULL) {
-        fprintf(stderr, "design: no memory for %" PRIu64 " %s\n", r.count, k->numbers);
+        fprintf(stderr, "%s: no memory for %" PRIu64 " %s\n", program_name(), r.count, k->numbers);
         return FAILED;
     }
     int status = fill_and_print(k, t, f, (size_t)r.count, room);
@@ -273,7 +276,7 @@ static int said(void)
 {
     if (fflush(stdout) == 0)
         return 0;
-    perror("design");
+    perror(program_name());
     return FAILED;
 }
 
@@ -305,12 +308,17 @@ static int judge_together(const struct kind *k, const struct ticket *t)
 
 int main(int argc, char **argv)
 {
+    take_name(argv[0]);
     if (argc < 2) {
         list_kinds(stderr);
         return USAGE;
     }
     if (strcmp(argv[1], "--help") == 0) {
         list_kinds(stdout);
+        return said();
+    }
+    if (strcmp(argv[1], "--version") == 0) {
+        puts("peldozkar " PEL_VERSION);
         return said();
     }
     const char *name = argv[1];

@@ -8,10 +8,13 @@
 #include <sys/stat.h>
 #include <unistd.h>
 
+#include "name.h"
+
 /* What is wrong with a file, as errno has it; false. */
 static bool say_wrong(const struct file *f)
 {
-    fprintf(stderr, "design: can't write %s: %s\n", f->path == NULL ? "standard output" : f->path, strerror(errno));
+    const char *what = f->path == NULL ? "standard output" : f->path;
+    fprintf(stderr, "%s: can't write %s: %s\n", program_name(), what, strerror(errno));
     return false;
 }
 

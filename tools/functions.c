@@ -1,4 +1,4 @@
-/* Prints the elementary functions at a few values, through the C header: what `make run` shows. */
+/* Prints the elementary functions at a few values, through the C header: what `make functions` shows. */
 #include <stdio.h>
 
 #include "peldozkar.h"

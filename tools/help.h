@@ -5,7 +5,7 @@
 struct help {
     const char *name, *summary; /* one line, in the list of kinds too */
     const char *options;        /* lines of the kind's own options */
-    const char *example;        /* the words behind "design" */
+    const char *example;        /* the words behind the program's name */
 };
 
 /* The help of a kind of that name; null for an unknown one. */

@@ -32,11 +32,11 @@ static const char *mean_lowpass(const struct ticket *t, const pel_report *r)
 {
     (void)t;
     switch (r->number) {
-    case 2:
+    case PEL_BAD_FREQUENCY:
         return "the cutoff must lie above 0 and below half the rate";
-    case 4:
+    case PEL_BAD_ATTENUATION:
         return bad_beta;
-    case 6:
+    case PEL_BAD_COUNT:
         return "the number of taps must be from 1 to 2^24";
     default:
         return NULL;
@@ -57,9 +57,9 @@ static const char *mean_spec(const struct ticket *t, const pel_report *r)
 {
     (void)t;
     switch (r->number) {
-    case 2:
+    case PEL_BAD_FREQUENCY:
         return "the cutoff must lie above 0, and half the transition or more below half the rate";
-    case 6:
+    case PEL_BAD_COUNT:
         return "these numbers ask for more than 2^24 taps";
     default:
         return NULL;
@@ -74,7 +74,7 @@ static pel_report judge_halfband(struct ticket *t)
 static pel_report judge_halfband_by_transition(struct ticket *t)
 {
     pel_report r = pel_halfband_len(t->transition, t->attenuation, t->rate);
-    if (r.number != 0)
+    if (r.number != PEL_ACCEPTED)
         return r;
     t->taps = r.count;
     /* The length goes by the attenuation's size, so the window does too. */
@@ -91,9 +91,9 @@ static const char *mean_halfband(const struct ticket *t, const pel_report *r)
 {
     bool by_transition = (t->given & TRANSITION) != 0;
     switch (r->number) {
-    case 4:
+    case PEL_BAD_ATTENUATION:
         return by_transition ? NULL : bad_beta;
-    case 6:
+    case PEL_BAD_COUNT:
         if (by_transition)
             return "these numbers ask for more than 2^24 taps";
         return "the number of taps must be 3 over a multiple of 4, such as 3, 7 or 11, and at most 2^24";
@@ -118,9 +118,9 @@ static const char *mean_gaussian(const struct ticket *t, const pel_report *r)
 {
     (void)t;
     switch (r->number) {
-    case 5:
+    case PEL_BAD_SHAPE:
         return "the bandwidth bt, in symbol rates, is out of range";
-    case 6: /* the samples' own largest is above two million */
+    case PEL_BAD_COUNT: /* the samples' own largest is above two million */
         return r->largest == 8.0 ? bad_span : bad_samples;
     default:
         return NULL;
@@ -141,9 +141,9 @@ static const char *mean_rrc(const struct ticket *t, const pel_report *r)
 {
     (void)t;
     switch (r->number) {
-    case 5:
+    case PEL_BAD_SHAPE:
         return "the roll-off is out of range";
-    case 6: /* the samples' own largest is 1024 */
+    case PEL_BAD_COUNT: /* the samples' own largest is 1024 */
         return r->largest == 32.0 ? bad_span : bad_samples;
     default:
         return NULL;
@@ -156,7 +156,7 @@ static pel_report judge_channelizer(struct ticket *t)
 {
     if ((t->given & BRANCH) == 0) {
         pel_report r = pel_channelizer_taps_per_branch(t->channels, t->passband, t->stopband, t->attenuation);
-        if (r.number != 0)
+        if (r.number != PEL_ACCEPTED)
             return r;
         t->branch = r.count;
     }
@@ -172,17 +172,17 @@ static const char *mean_channelizer(const struct ticket *t, const pel_report *r)
 {
     static char text[100];
     switch (r->number) {
-    case 2:
+    case PEL_BAD_FREQUENCY:
         if (r->carries == PEL_RANGE)
             return "the cutoff half way between the edges is too small";
         return "the passband must be finite and above 0, the stopband above it and at most 1.5";
-    case 3:
+    case PEL_BAD_TRANSITION:
         return "the edges are so near each other that more than 2^24 taps are needed";
-    case 4:
+    case PEL_BAD_ATTENUATION:
         return "the attenuation, in dB, is out of range";
-    case 6:
+    case PEL_BAD_COUNT:
         /* The estimate judges the channels first, and no branch. */
-        if (pel_channelizer_taps(t->channels, t->passband, t->stopband, t->attenuation).number == 6)
+        if (pel_channelizer_taps(t->channels, t->passband, t->stopband, t->attenuation).number == PEL_BAD_COUNT)
             return "the channels must be 4, 8, 16, 32, 64, 128 or 256";
         snprintf(text, sizeof text, "a branch must have 4 to 32 taps, and %s %" PRIu64,
                  (t->given & BRANCH) != 0 ? "was given" : "these edges need", t->branch);
@@ -209,11 +209,11 @@ static const char *mean_biquad(const struct ticket *t, const pel_report *r)
 {
     (void)t;
     switch (r->number) {
-    case 2:
+    case PEL_BAD_FREQUENCY:
         return "the centre must lie above 0 and below half of a finite rate";
-    case 5:
+    case PEL_BAD_SHAPE:
         return "the quality q must be finite and positive";
-    case 11:
+    case PEL_BAD_ELEMENT:
         return not_q14;
     default:
         return NULL;
@@ -225,7 +225,7 @@ static pel_report judge_butterworth(struct ticket *t)
 {
     uint8_t nothing = 0;
     pel_report r = pel_butterworth_sos(t->response, t->order, t->cutoff, t->rate, &nothing, 0);
-    return r.number == 8 ? counted(r.expected) : r;
+    return r.number == PEL_BAD_LENGTH ? counted(r.expected) : r;
 }
 
 static pel_report fill_butterworth(const struct ticket *t, uint8_t *out, size_t bytes)
@@ -237,13 +237,13 @@ static const char *mean_butterworth(const struct ticket *t, const pel_report *r)
 {
     (void)t;
     switch (r->number) {
-    case 2:
+    case PEL_BAD_FREQUENCY:
         return "the cutoff must lie above 0 and below half of a finite rate";
-    case 6:
+    case PEL_BAD_COUNT:
         return "the order must be 2, 4, 6 or 8";
-    case 7:
+    case PEL_BAD_CODE:
         return "a Butterworth filter is a low-pass or a high-pass";
-    case 11:
+    case PEL_BAD_ELEMENT:
         return not_q14;
     default:
         return NULL;
@@ -265,9 +265,9 @@ static const char *mean_preemphasis(const struct ticket *t, const pel_report *r)
 {
     (void)t;
     switch (r->number) {
-    case 1:
+    case PEL_BAD_RATE:
         return "the rate must be finite, and 40 kHz or more";
-    case 5:
+    case PEL_BAD_SHAPE:
         return "the time constant tau must be above 0, and a millisecond or less";
     default:
         return NULL;
@@ -287,7 +287,7 @@ static pel_report judge_kaiser(struct ticket *t)
 {
     uint8_t nothing = 0;
     pel_report r = pel_kaiser_f32(t->beta, t->symmetry, &nothing, 0);
-    return r.number == 0 ? judge_window(t) : r;
+    return r.number == PEL_ACCEPTED ? judge_window(t) : r;
 }
 
 static bool as_q15(const struct ticket *t)
@@ -313,7 +313,7 @@ static pel_report fill_kaiser(const struct ticket *t, uint8_t *out, size_t bytes
 static const char *mean_window(const struct ticket *t, const pel_report *r)
 {
     (void)t;
-    return r->number == 4 ? bad_beta : NULL;
+    return r->number == PEL_BAD_ATTENUATION ? bad_beta : NULL;
 }
 
 /* ---- The table --------------------------------------------------------------------------------- */

@@ -22,22 +22,22 @@ int main(void)
 
     for (uint64_t response = PEL_LOWPASS; response <= PEL_NOTCH; response++) {
         r = pel_biquad_coefs(response, centre, q, rate, bytes, sizeof bytes);
-        if (r.number != 0)
+        if (r.number != PEL_ACCEPTED)
             return (int)r.number;
 
         double c[5];
         printf("%-9s", names[response]);
         for (size_t i = 0; i < 5; i++)
             printf(" %7.4f", c[i] = f64_at(bytes, i));
-        printf("; passes %.2f of 0 Hz, %.2f of %g, %.2f of %g\n", passed(c, 0.0),
-               passed(c, 2.0 * pi * centre / rate), centre, passed(c, pi), rate / 2.0);
+        printf("; passes %.2f of 0 Hz, %.2f of %g, %.2f of %g\n", passed(c, 0.0), passed(c, 2.0 * pi * centre / rate),
+               centre, passed(c, pi), rate / 2.0);
     }
 
     r = pel_biquad_coefs(PEL_NOTCH, rate / 2.0, q, rate, bytes, sizeof bytes);
-    if (r.number == 2 && r.carries == PEL_RANGE)
+    if (r.number == PEL_BAD_FREQUENCY && r.carries == PEL_RANGE)
         printf("refused with 2: a centre of %g isn't between %g and %g\n", r.offered, r.smallest, r.largest);
     r = pel_biquad_coefs(4, centre, q, rate, bytes, sizeof bytes);
-    if (r.number == 7)
+    if (r.number == PEL_BAD_CODE)
         puts("refused with 7: there is no response 4");
     return 0;
 }

@@ -24,7 +24,7 @@ int main(void)
     uint8_t bytes[8 * 5 * SECTIONS];
 
     pel_report r = pel_butterworth_sos(PEL_LOWPASS, ORDER, cutoff, rate, bytes, sizeof bytes);
-    if (r.number != 0)
+    if (r.number != PEL_ACCEPTED)
         return (int)r.number;
     for (size_t i = 0; i < 5 * SECTIONS; i++)
         printf("%7.4f%s", f64_at(bytes, i), i % 5 == 4 ? "\n" : " ");
@@ -36,10 +36,10 @@ int main(void)
     }
 
     r = pel_butterworth_sos(PEL_LOWPASS, 3, cutoff, rate, bytes, sizeof bytes);
-    if (r.number == 6)
+    if (r.number == PEL_BAD_COUNT)
         puts("refused with 6: the order must be 2, 4, 6 or 8");
     r = pel_butterworth_sos(PEL_NOTCH, ORDER, cutoff, rate, bytes, sizeof bytes);
-    if (r.number == 7)
+    if (r.number == PEL_BAD_CODE)
         puts("refused with 7: a Butterworth filter is a low-pass or a high-pass");
     return 0;
 }

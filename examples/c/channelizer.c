@@ -15,12 +15,11 @@ int main(void)
 
     pel_report needed = pel_channelizer_taps(CHANNELS, passband, stopband, attenuation);
     pel_report branch = pel_channelizer_taps_per_branch(CHANNELS, passband, stopband, attenuation);
-    if (needed.number != 0 || branch.number != 0 || branch.count > 32)
+    if (needed.number != PEL_ACCEPTED || branch.number != PEL_ACCEPTED || branch.count > 32)
         return 1;
     size_t taps = CHANNELS * (size_t)branch.count;
-    pel_report r =
-        pel_channelizer_prototype(CHANNELS, branch.count, passband, stopband, attenuation, bytes, 8 * taps);
-    if (r.number != 0)
+    pel_report r = pel_channelizer_prototype(CHANNELS, branch.count, passband, stopband, attenuation, bytes, 8 * taps);
+    if (r.number != PEL_ACCEPTED)
         return (int)r.number;
     printf("%" PRIu64 " taps needed, %" PRIu64 " a branch: %zu\n", needed.count, branch.count, taps);
 
@@ -38,7 +37,7 @@ int main(void)
     printf("sum %.4f\n", total);
 
     r = pel_channelizer_lowpass(CHANNELS, branch.count, passband, stopband, 130.0);
-    if (r.number == 4 && r.carries == PEL_RANGE)
+    if (r.number == PEL_BAD_ATTENUATION && r.carries == PEL_RANGE)
         printf("refused with 4: %g dB aren't %g to %g\n", r.offered, r.smallest, r.largest);
     return 0;
 }

@@ -13,7 +13,7 @@ int main(void)
     uint8_t bytes[8 * TAPS];
 
     pel_report r = pel_gaussian(bt, SAMPLES, SPAN, bytes, sizeof bytes);
-    if (r.number != 0)
+    if (r.number != PEL_ACCEPTED)
         return (int)r.number;
 
     printf("%" PRIu64 " taps\n", r.count);
@@ -26,16 +26,16 @@ int main(void)
 
     /* A buffer for another number of taps stays as it came. */
     r = pel_gaussian(bt, SAMPLES, SPAN, bytes, sizeof bytes - 8);
-    if (r.number == 8 && r.carries == PEL_LENGTH)
+    if (r.number == PEL_BAD_LENGTH && r.carries == PEL_LENGTH)
         printf("refused with 8: a buffer for %" PRIu64 " taps, not %" PRIu64 "\n", r.expected, r.given);
 
     /* So does one whose bytes aren't whole taps: these figures are bytes. */
     r = pel_gaussian(bt, SAMPLES, SPAN, bytes, sizeof bytes - 1);
-    if (r.number == 8 && r.carries == PEL_LENGTH)
+    if (r.number == PEL_BAD_LENGTH && r.carries == PEL_LENGTH)
         printf("refused with 8: %" PRIu64 " bytes, not %" PRIu64 "\n", r.expected, r.given);
 
     r = pel_gaussian_new(0.1, SAMPLES, SPAN);
-    if (r.number == 5 && r.carries == PEL_RANGE)
+    if (r.number == PEL_BAD_SHAPE && r.carries == PEL_RANGE)
         printf("refused with 5: a bandwidth of %g isn't %g to %g\n", r.offered, r.smallest, r.largest);
     return 0;
 }

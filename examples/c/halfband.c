@@ -12,13 +12,13 @@ int main(void)
     uint8_t bytes[8 * ROOM];
 
     pel_report r = pel_halfband_len(transition, attenuation, rate);
-    if (r.number != 0)
+    if (r.number != PEL_ACCEPTED)
         return (int)r.number;
     if (r.count > ROOM)
         return 1;
     size_t taps = (size_t)r.count;
     r = pel_halfband(pel_kaiser_beta(attenuation), bytes, 8 * taps);
-    if (r.number != 0)
+    if (r.number != PEL_ACCEPTED)
         return (int)r.number;
 
     size_t products = 0; /* with mirror images added first, one for each tap of the left half and the middle */
@@ -35,7 +35,7 @@ int main(void)
 
     /* Such a filter has 3 taps, 7, 11 and so on. */
     r = pel_halfband_new(pel_kaiser_beta(attenuation), 9);
-    if (r.number == 6)
+    if (r.number == PEL_BAD_COUNT)
         puts("refused with 6: 9 taps aren't 3 over a multiple of 4");
     return 0;
 }

@@ -14,7 +14,7 @@ int main(void)
 
     /* The last number before the buffer is beta, which counts for Kaiser's window alone. */
     pel_report r = pel_lowpass(cutoff, rate, PEL_HAMMING, 0.0, bytes, sizeof bytes);
-    if (r.number != 0)
+    if (r.number != PEL_ACCEPTED)
         return (int)r.number;
     printf("%" PRIu64 " taps, a delay of %" PRIu64 " samples\n", r.count, pel_delay(r.count).count);
 
@@ -27,12 +27,12 @@ int main(void)
 
     /* The same judgement needs no buffer. Half of the rate is too much for a cutoff. */
     r = pel_lowpass_new(rate / 2.0, rate, PEL_HAMMING, 0.0, TAPS);
-    if (r.number == 2 && r.carries == PEL_RANGE)
+    if (r.number == PEL_BAD_FREQUENCY && r.carries == PEL_RANGE)
         printf("refused with 2: a cutoff of %g isn't between %g and %g\n", r.offered, r.smallest, r.largest);
 
     /* Two taps of a Hann window are its ends, both 0: nothing to divide by. */
     r = pel_lowpass_new(cutoff, rate, PEL_HANN, 0.0, 2);
-    if (r.number == 10)
+    if (r.number == PEL_BAD_SUM)
         puts("refused with 10: the taps add up to 0");
     return 0;
 }

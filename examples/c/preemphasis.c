@@ -10,7 +10,7 @@ int main(void)
     uint8_t bytes[8 * 3];
 
     pel_report r = pel_preemphasis_coefs(tau, rate, bytes, sizeof bytes);
-    if (r.number != 0)
+    if (r.number != PEL_ACCEPTED)
         return (int)r.number;
     double b0 = f64_at(bytes, 0), b1 = f64_at(bytes, 1), a1 = f64_at(bytes, 2);
     printf("b0 %.4f, b1 %.4f, a1 %.4f\n", b0, b1, a1);
@@ -25,10 +25,10 @@ int main(void)
     }
 
     r = pel_preemphasis_coefs(tau, 8000.0, bytes, sizeof bytes);
-    if (r.number == 1 && r.carries == PEL_RANGE)
+    if (r.number == PEL_BAD_RATE && r.carries == PEL_RANGE)
         printf("refused with 1: a rate of %g isn't %g to %g\n", r.offered, r.smallest, r.largest);
     r = pel_preemphasis_coefs(0.05, rate, bytes, sizeof bytes);
-    if (r.number == 5 && r.carries == PEL_RANGE)
+    if (r.number == PEL_BAD_SHAPE && r.carries == PEL_RANGE)
         printf("refused with 5: a time constant of %g isn't above %g and at most %g\n", r.offered, r.smallest,
                r.largest);
     return 0;

@@ -23,11 +23,11 @@ int main(void)
 {
     static uint8_t bytes[8 * ROOM];
     pel_report r = pel_spec_num_taps(cutoff, transition, attenuation, rate, ROOM);
-    if (r.number != 0)
+    if (r.number != PEL_ACCEPTED)
         return (int)r.number;
     size_t taps = (size_t)r.count;
     r = pel_spec_design(cutoff, transition, attenuation, rate, ROOM, bytes, 8 * taps);
-    if (r.number != 0)
+    if (r.number != PEL_ACCEPTED)
         return (int)r.number;
     printf("%zu taps, beta %.5f\n", taps, pel_kaiser_beta(attenuation));
     for (int hertz = 950; hertz <= 1050; hertz += 50)
@@ -35,13 +35,13 @@ int main(void)
 
     /* A reader with less memory, a buffer of another length, a rate that isn't one. */
     r = pel_spec_design(cutoff, transition, attenuation, rate, 128, bytes, 8 * 128);
-    if (r.number == 9)
+    if (r.number == PEL_TOO_MANY_TAPS)
         printf("refused with 9: %" PRIu64 " taps needed, %" PRIu64 " allowed\n", r.expected, r.given);
     r = pel_spec_design(cutoff, transition, attenuation, rate, ROOM, bytes, 8 * 100);
-    if (r.number == 8)
+    if (r.number == PEL_BAD_LENGTH)
         printf("refused with 8: a buffer for %" PRIu64 " taps, not %" PRIu64 "\n", r.expected, r.given);
     r = pel_spec_num_taps(cutoff, transition, attenuation, -rate, ROOM);
-    if (r.number == 1)
+    if (r.number == PEL_BAD_RATE)
         puts("refused with 1: the rate must be finite and positive");
     return 0;
 }

@@ -5,7 +5,26 @@ use core::fmt;
 use crate::raw::{self, Report};
 
 /// What is wrong, by the refusals' numbers.
+///
+/// Later versions add reasons, for numbers from 12 on, so a `match` needs an arm for the others. A number that a
+/// crate doesn't know is [`Unknown`](Self::Unknown) there, and has a reason of its own in a later one: to ask for
+/// such a number, compare [`number`](Self::number).
+///
+/// ```
+/// use peldozkar::{Reason, Window, lowpass_new};
+///
+/// let what = match lowpass_new(5000.0, 8000.0, Window::Hann, 31) {
+///     Ok(_) => "accepted",
+///     Err(error) => match error.reason {
+///         Reason::Rate => "the rate",
+///         Reason::Frequency => "the cutoff",
+///         _ => "something else",
+///     },
+/// };
+/// assert_eq!(what, "the cutoff");
+/// ```
 #[derive(Clone, Copy, Debug, PartialEq, Eq, Hash)]
+#[non_exhaustive]
 pub enum Reason {
     /// 1: the rate.
     Rate,
@@ -29,46 +48,46 @@ pub enum Reason {
     Divisor,
     /// 11: an element that Q15 or Q14 can't take.
     Element,
-    /// A number that this crate doesn't know: the library is newer than it.
+    /// A number that this crate doesn't know, 12 or more: the library is newer than it.
     Unknown(u32),
 }
 
 impl Reason {
-    /// The refusal's number, 1 to 11.
+    /// The refusal's number: 1 to 11, or the one that is [`Unknown`](Self::Unknown).
     ///
     /// ```
     /// assert_eq!(peldozkar::Reason::Cap.number(), 9);
     /// ```
     pub const fn number(self) -> u32 {
         match self {
-            Self::Rate => 1,
-            Self::Frequency => 2,
-            Self::Transition => 3,
-            Self::Attenuation => 4,
-            Self::Shape => 5,
-            Self::Count => 6,
-            Self::Code => 7,
-            Self::Length => 8,
-            Self::Cap => 9,
-            Self::Divisor => 10,
-            Self::Element => 11,
+            Self::Rate => raw::BAD_RATE,
+            Self::Frequency => raw::BAD_FREQUENCY,
+            Self::Transition => raw::BAD_TRANSITION,
+            Self::Attenuation => raw::BAD_ATTENUATION,
+            Self::Shape => raw::BAD_SHAPE,
+            Self::Count => raw::BAD_COUNT,
+            Self::Code => raw::BAD_CODE,
+            Self::Length => raw::BAD_LENGTH,
+            Self::Cap => raw::TOO_MANY_TAPS,
+            Self::Divisor => raw::BAD_SUM,
+            Self::Element => raw::BAD_ELEMENT,
             Self::Unknown(number) => number,
         }
     }
 
     const fn of(number: u32) -> Self {
         match number {
-            1 => Self::Rate,
-            2 => Self::Frequency,
-            3 => Self::Transition,
-            4 => Self::Attenuation,
-            5 => Self::Shape,
-            6 => Self::Count,
-            7 => Self::Code,
-            8 => Self::Length,
-            9 => Self::Cap,
-            10 => Self::Divisor,
-            11 => Self::Element,
+            raw::BAD_RATE => Self::Rate,
+            raw::BAD_FREQUENCY => Self::Frequency,
+            raw::BAD_TRANSITION => Self::Transition,
+            raw::BAD_ATTENUATION => Self::Attenuation,
+            raw::BAD_SHAPE => Self::Shape,
+            raw::BAD_COUNT => Self::Count,
+            raw::BAD_CODE => Self::Code,
+            raw::BAD_LENGTH => Self::Length,
+            raw::TOO_MANY_TAPS => Self::Cap,
+            raw::BAD_SUM => Self::Divisor,
+            raw::BAD_ELEMENT => Self::Element,
             other => Self::Unknown(other),
         }
     }
@@ -97,8 +116,10 @@ impl Reason {
 
 /// What a refusal carries beside its number.
 ///
-/// Whether a limit is itself allowed is said where the function is explained.
+/// Whether a limit is itself allowed is said where the function is explained. Later versions may carry more, so a
+/// `match` needs an arm for the others.
 #[derive(Clone, Copy, Debug, PartialEq)]
+#[non_exhaustive]
 pub enum Carried {
     /// The number says it all.
     Nothing,
@@ -166,7 +187,7 @@ pub struct Error {
 }
 
 impl Error {
-    /// The refusal's number, 1 to 11.
+    /// The refusal's number, that of its [`Reason`].
     ///
     /// ```
     /// assert_eq!(peldozkar::delay(0).unwrap_err().number(), 6);
@@ -254,7 +275,7 @@ impl core::error::Error for Error {}
 impl Report {
     /// The report of an accepted ticket, or the refusal.
     pub(crate) fn taken(self) -> Result<Self, Error> {
-        if self.number == 0 {
+        if self.number == raw::ACCEPTED {
             Ok(self)
         } else {
             Err(Error::of(&self))

@@ -24,14 +24,26 @@
 //! take keeps the numbers before it. Every number can be offered, NaN, infinities and impossible counts
 //! included: nothing here panics.
 //!
-//! On the stack [`lowpass`], [`Spec::design`], [`halfband`], [`gaussian`] and [`channelizer_prototype`] take under
-//! 9 KB, the others under 1 KB (x86-64).
+//! A refusal has a number. This crate knows 1 to 11; later versions add more, so [`Reason`], [`Carried`], [`Window`]
+//! and [`Response`] are `#[non_exhaustive]`.
+//!
+//! # What a caller owes
+//!
+//! The library is for x86-64 today. It needs the floating-point environment that Rust itself asks for, and that C code
+//! owes which calls Rust: rounding to nearest, no flush-to-zero and no denormals-are-zero, exceptions masked. In
+//! another one nothing said here holds: where rounding is toward zero, two Hann taps are accepted that must be refused;
+//! where it is upward, 146 of the 147 taps of a specification are others. Status flags may be raised: a low-pass of one
+//! tap raises "invalid".
+//!
+//! On the stack the exports behind [`lowpass`], [`Spec::design`], [`halfband`], [`gaussian`] and
+//! [`channelizer_prototype`] take under 9 KB, the others under 1 KB; the repository's `docs/FUNCTIONS.md` has the bytes
+//! of each.
 //!
 //! # What is proved, and what isn't
 //!
 //! Proved, for every input: the exports of the library give the values of their definitions, write what they
 //! say and nothing else, and return. The C header, `include/peldozkar.h`, says for each of them what it
-//! answers and in which order it refuses; the repository's README says where the definitions are.
+//! answers and in which order it refuses; the repository's `docs/FUNCTIONS.md` says where the definitions are.
 //!
 //! Not proved: this crate. It lends slices to the exports as bytes, gives their codes names and their reports
 //! types, and computes nothing of its own. The comparison of the library with the Rust that it is a port of
@@ -51,6 +63,11 @@
 compile_error!(
     "peldozkar lends numbers to its library as little-endian bytes: the target must be little-endian"
 );
+
+/// The examples of the README, which are tests too.
+#[cfg(doctest)]
+#[doc = include_str!("../README.md")]
+struct Readme;
 
 mod channelizer;
 mod elementary;

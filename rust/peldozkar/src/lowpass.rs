@@ -4,8 +4,9 @@ use crate::Error;
 use crate::raw::{self, Report};
 use crate::sys::bytes_mut;
 
-/// The window of a low-pass.
+/// The window of a low-pass. Later versions may have more of them.
 #[derive(Clone, Copy, Debug, PartialEq)]
+#[non_exhaustive]
 pub enum Window {
     /// Hann's.
     Hann,
@@ -101,7 +102,7 @@ pub fn lowpass_new(cutoff: f64, rate: f64, window: Window, taps: u64) -> Result<
 /// Its methods are refused, in this order:
 /// - 1 a rate that isn't finite and positive
 /// - 3 (0, rate/2, transition) where the transition isn't finite and positive
-/// - 2 (0, (rate - transition)/2, cutoff) where the cutoff isn't above 0 and at most that
+/// - 2 (0, rate/2 - transition/2, cutoff), each operation rounded, where the cutoff isn't above 0 and at most that
 /// - 4, 3, 3 as [`kaiserord`](crate::kaiserord)
 /// - 9 `max_taps` is below the taps needed
 ///

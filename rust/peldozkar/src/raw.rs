@@ -10,12 +10,12 @@
 //!
 //! let mut bytes = [0; 9];
 //! let report = raw::pel_lowpass(0.25, 1.0, raw::HANN, 0.0, &mut bytes[1..]);
-//! assert_eq!((report.number, report.count, report.value), (0, 1, 0.5));
+//! assert_eq!((report.number, report.count, report.value), (raw::ACCEPTED, 1, 0.5));
 //! assert_eq!(bytes[1..], 1.0_f64.to_le_bytes());
 //!
 //! // Nine bytes aren't whole taps.
 //! let report = raw::pel_lowpass(0.25, 1.0, raw::HANN, 0.0, &mut bytes);
-//! assert_eq!((report.number, report.carries), (8, raw::LENGTH));
+//! assert_eq!((report.number, report.carries), (raw::BAD_LENGTH, raw::LENGTH));
 //! assert_eq!((report.expected, report.given), (8, 9));
 //! ```
 
@@ -30,6 +30,32 @@ pub use crate::sys::{
     pel_spec_lowpass, pel_spec_num_taps, pel_sqrt, pel_to_f32, pel_to_f32_sos, pel_to_q14,
     pel_to_q15, pel_window_gain,
 };
+
+/// `number`: the ticket is accepted. Every other number is a refusal, those included that are not named here: later
+/// versions add numbers from 12 on.
+pub const ACCEPTED: u32 = 0;
+/// `number`: the rate.
+pub const BAD_RATE: u32 = 1;
+/// `number`: the cutoff, the centre or a band edge.
+pub const BAD_FREQUENCY: u32 = 2;
+/// `number`: the transition, or a length past 2^24 taps.
+pub const BAD_TRANSITION: u32 = 3;
+/// `number`: the attenuation or beta.
+pub const BAD_ATTENUATION: u32 = 4;
+/// `number`: the bandwidth bt, the roll-off, the quality q or the time constant.
+pub const BAD_SHAPE: u32 = 5;
+/// `number`: a count.
+pub const BAD_COUNT: u32 = 6;
+/// `number`: an unknown code, or a response that a Butterworth filter hasn't.
+pub const BAD_CODE: u32 = 7;
+/// `number`: the buffer's length.
+pub const BAD_LENGTH: u32 = 8;
+/// `number`: `max_taps` is below the number of taps needed.
+pub const TOO_MANY_TAPS: u32 = 9;
+/// `number`: the sum that the taps are divided by is 0 or not finite.
+pub const BAD_SUM: u32 = 10;
+/// `number`: an element that Q15 or Q14 can't take.
+pub const BAD_ELEMENT: u32 = 11;
 
 /// `carries`: nothing.
 pub const NOTHING: u32 = 0;
@@ -69,7 +95,7 @@ pub const SYMMETRIC: u64 = 1;
 #[repr(C)]
 #[derive(Clone, Copy, Debug, Default, PartialEq)]
 pub struct Report {
-    /// 0 where the ticket is accepted, else the refusal's number.
+    /// [`ACCEPTED`] where the ticket is accepted, else the refusal's number.
     pub number: u32,
     /// Which of the next fields belong to the refusal: [`NOTHING`], [`RANGE`], [`LENGTH`], [`CAP`] or
     /// [`ELEMENT`].
@@ -96,7 +122,7 @@ pub struct Report {
 #[repr(C)]
 #[derive(Clone, Copy, Debug, Default, PartialEq)]
 pub struct GainReport {
-    /// 0, or 8 where the source isn't whole samples.
+    /// [`ACCEPTED`], or [`BAD_LENGTH`] where the source isn't whole samples.
     pub number: u32,
     /// [`NOTHING`] or [`LENGTH`].
     pub carries: u32,

@@ -4,8 +4,9 @@ use crate::Error;
 use crate::raw;
 use crate::sys::bytes_mut;
 
-/// What a second-order section lets through.
+/// What a second-order section lets through. Later versions may have more of them.
 #[derive(Clone, Copy, Debug, PartialEq, Eq, Hash)]
+#[non_exhaustive]
 pub enum Response {
     /// What is below its centre.
     Lowpass,

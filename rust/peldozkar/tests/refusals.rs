@@ -4,8 +4,8 @@ use peldozkar::{
     Carried, Error, Reason, Response, Spec, Symmetry, Window, biquad_coefs, blackman_harris,
     butterworth_sos, channelizer_prototype, channelizer_taps, delay, gaussian, gaussian_new,
     halfband, halfband_len, halfband_new, hann, kaiser, kaiserord, lowpass, lowpass_new,
-    preemphasis_coefs, q14_from_f64, q15_tap, rrc, rrc_len, rrc_new, to_f32, to_f32_sos, to_q14,
-    to_q15, window_gain,
+    preemphasis_coefs, q14_from_f64, q15_tap, raw, rrc, rrc_len, rrc_new, to_f32, to_f32_sos,
+    to_q14, to_q15, window_gain,
 };
 
 const NAN: f64 = f64::NAN;
@@ -112,6 +112,21 @@ fn numbers_are_those_of_the_header() {
         Reason::Element,
     ];
     assert!(all.map(Reason::number).into_iter().eq(1..=11));
+    let named = [
+        raw::BAD_RATE,
+        raw::BAD_FREQUENCY,
+        raw::BAD_TRANSITION,
+        raw::BAD_ATTENUATION,
+        raw::BAD_SHAPE,
+        raw::BAD_COUNT,
+        raw::BAD_CODE,
+        raw::BAD_LENGTH,
+        raw::TOO_MANY_TAPS,
+        raw::BAD_SUM,
+        raw::BAD_ELEMENT,
+    ];
+    assert_eq!(all.map(Reason::number), named);
+    assert_eq!(raw::ACCEPTED, 0);
     assert_eq!(Reason::Unknown(12).number(), 12);
 }
 
@@ -159,6 +174,20 @@ fn two_a_frequency() {
         Reason::Frequency,
         range(0.0, 3950.0, 3951.0),
     );
+    // The largest cutoff is rate/2 - transition/2 with each operation rounded: 2 - 0 smallest numbers here, where
+    // (rate - transition)/2 is 1.
+    let smallest = f64::from_bits(1);
+    let tiny = |cutoff| Spec {
+        cutoff,
+        transition: smallest,
+        attenuation: 60.0,
+    };
+    refused(
+        tiny(3.0 * smallest).num_taps(3.0 * smallest, 1000),
+        Reason::Frequency,
+        range(0.0, 2.0 * smallest, 3.0 * smallest),
+    );
+    assert!(tiny(2.0 * smallest).num_taps(3.0 * smallest, 1000).is_ok());
     refused(
         biquad_coefs(Response::Notch, 4000.0, 1.0, 8000.0),
         Reason::Frequency,
