@@ -59,7 +59,7 @@ target/tools/design target/tools/functions: target/tools/%: tools/%.c include/pe
 
 target/tools/design: $(DESIGN) $(addprefix tools/,kinds.h forms.h words.h help.h files.h name.h picture.h plot.h response.h)
 
-# The exports called from C, under the address and undefined-behaviour sanitizers.
+# The exports called from C, with the worked examples, under the address and undefined-behaviour sanitizers.
 c: $(LIB)
 	mkdir -p target/tests
 	for name in elementary designs halfband pulses channelizer sections q15 formats windows; do $(CC) $(STRICT) $(CHECKED) tests/c/$$name.c -o target/tests/$$name $(LIB) -lm && target/tests/$$name || exit 1; done
@@ -96,12 +96,10 @@ bench: $(LIB)
 	tests/differential/run bench
 	CC="$(CC)" tests/scipy/run $(LIB) --speed
 
-# The stored lists that the programs `replay` (kinds up to 20), `replay_kinds` (21 to 31) and `replay_beside` (32 on) hold the port to: answers of the Rust side alone.
+# The stored list that the program `replay` holds the port to: answers of the Rust side alone.
 list: $(LIB)
 	tests/differential/run list >target/list
-	awk '$$1 <= 20' target/list >crates/replay/stdin
-	awk '$$1 > 20 && $$1 <= 31' target/list >crates/replay_kinds/stdin
-	awk '$$1 > 31' target/list >crates/replay_beside/stdin
+	cp target/list crates/replay/stdin
 
 # The elementary functions against the crate libm (Debian: librust-libm-dev).
 distance:

@@ -40,7 +40,8 @@ static void accepted(uint64_t channels, uint64_t branch, double passband, double
 
 static void lengths(void)
 {
-    /* The Rust's examples. */
+    /* The Rust's examples; by hand: 52.05/2.285/(pi/16) + 1 is 117.01 and /(pi/40) + 1 is 291.03, rounded up and not
+     * made odd; a 16th of 118 is 7.4, of 292 is 18.3. */
     REPORT(pel_channelizer_taps(16, 0.5, 1, 60), counted(118));
     REPORT(pel_channelizer_taps_per_branch(16, 0.5, 1, 60), counted(8));
     REPORT(pel_channelizer_taps(16, 0.4, 0.6, 60), counted(292));
@@ -73,6 +74,16 @@ static void designs(void)
     accepted(64, 17, 0.4, 0.6, 35);
     accepted(256, 4, 1.4, 1.5, 21);
     accepted(256, 32, 0.5, 1, 100);
+}
+
+static void examples(void)
+{
+    /* The Rust's: edges that are swapped, and a stopband above 1.5. The scope document's: 20 to 120 dB, and 12
+     * channels, which are told before a buffer of another length. */
+    PLAIN(pel_channelizer_taps(16, 1, 0.5, 60), 2);
+    PLAIN(pel_channelizer_taps(16, 0.5, 1.6, 60), 2);
+    RANGE(pel_channelizer_taps(16, 0.5, 1, 10), 4, 20, 120, 10);
+    REFUSED(pel_channelizer_prototype(12, 8, 0.5, 1, 60, lend(800), 800), plain(6));
 }
 
 static void length_refusals(void)
@@ -173,6 +184,7 @@ static void tests(void)
 {
     lengths();
     designs();
+    examples();
     length_refusals();
     refusals();
     orders();

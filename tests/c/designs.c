@@ -20,6 +20,7 @@ static void formulas(void)
     EXPECT(pel_kaiser_beta(inf), inf);
     EXPECT(pel_kaiser_beta(60.0), 0.1102 * (60.0 - 8.7));
 
+    /* Two negative signs are taken: the scope document's numbers of taps, here and of the half-band below. */
     r = pel_kaiserord(60, -100, -8000);
     expect_count("kaiserord(60, -100, -8000)", r.count, 293);
     expect("its beta", r.value, 0.1102 * (60.0 - 8.7));
@@ -46,6 +47,7 @@ static void formulas(void)
 
 static void lowpass(void)
 {
+    /* The scope document's one tap. */
     pel_report r = pel_lowpass(0.25, 1, PEL_HANN, quiet, lend(8), 8);
     expect_count("one tap", r.number, 0);
     expect_count("one tap", r.count, 1);
@@ -96,6 +98,7 @@ static void lowpass(void)
 
 static void spec(void)
 {
+    /* The scope document's specification: 293 taps, and 9 with one fewer allowed. */
     pel_report r = pel_spec_num_taps(1000, 100, 60, 8000, 293);
     expect_count("spec", r.count, 293);
     report("9", pel_spec_num_taps(1000, 100, 60, 8000, 292), cap(293, 292));
@@ -124,6 +127,83 @@ static void spec(void)
     RANGE(pel_spec_lowpass(2 * tiny, tiny, 60, 4 * tiny, 100), 2, 0.0, 2 * tiny, 2 * tiny);
     PLAIN(pel_spec_lowpass(0.25, of_bits(0x3E8D00CC45E93F3A), 60, 1, UINT64_MAX), 6);
     expect("the same divisor", pel_spec_lowpass(1000, 100, 60, 8000, 1000).value, r.value);
+}
+
+/* ---- Worked examples --------------------------------------------------------------------------- */
+
+static void formula_examples(void)
+{
+    /* The Rust's: the series at 1, the beta of 60 dB, and lengths. */
+    near("I0(1)", pel_bessel_i0(1).value, 1.2660658777520084, 1e-15);
+    near("the beta of 60 dB", pel_kaiser_beta(60), 5.65326, 1e-9);
+    pel_report r = pel_kaiserord(60, 1000, 48000);
+    expect_count("1000 at 48000 needs an odd number of taps", r.count % 2, 1);
+    expect_count("1000 at 48000 needs above 100 taps", r.count > 100, 1);
+    near("1000 at 48000 has the beta of 60 dB", r.value, 5.65326, 1e-4);
+    uint64_t wide = pel_halfband_len(0.1, 60, 1).count, narrow = pel_halfband_len(0.05, 60, 1).count;
+    expect_count("a wider transition needs no more taps", wide <= narrow, 1);
+    PLAIN(pel_halfband_len(0.1, 3, 1), 4);
+
+    /* Kaiser's formulas by hand: 0.5842 29^0.4 + 0.07886 29; nothing yet at 21 dB; and 52.05/2.285/(pi/24) + 1 is
+     * 175.02, rounded up 176, made odd 177. */
+    near("the beta of 50 dB", pel_kaiser_beta(50), 4.533514120981248, 1e-12);
+    EXPECT(pel_kaiser_beta(21), 0.0);
+    expect_count("1000 at 48000", r.count, 177);
+
+    /* By hand: the series of either zero is its first term, and the delay is (taps - 1)/2, rounded down. */
+    r = pel_bessel_i0(-0.0);
+    expect("I0(-0)", r.value, 1.0);
+    expect_count("I0(-0) terms", r.count, 1);
+    REPORT(pel_delay(2), counted(0));
+    REPORT(pel_delay(31), counted(15));
+}
+
+static void lowpass_examples(void)
+{
+    /* The scope document's: a cutoff at half the rate. The Rust's: one above it. */
+    REFUSED(pel_lowpass(4000, 8000, PEL_HANN, 0, lend(8 * 31), 8 * 31), range(2, 0, 4000, 4000));
+    REFUSED(pel_lowpass(6000, 10000, PEL_HANN, 0, lend(8 * 31), 8 * 31), range(2, 0, 5000, 6000));
+
+    /* The Rust's: a tenth of the rate, 31 taps. */
+    pel_report r = pel_lowpass(1000, 10000, PEL_HAMMING, 0, lend(8 * 31), 8 * 31);
+    report("31 Hamming taps", r, (pel_report){.count = 31, .value = r.value});
+    near("31 Hamming taps add up to 1", sum_of_taps(31), 1.0, 1e-12);
+    expect("their first equals their last", tap(0), tap(30));
+    around("31 Hamming taps");
+
+    /* A quarter of the rate, without a buffer. The scope document's: two Hann taps, which are zeros; then its limits:
+     * 1 to 2^24 taps, and a beta that isn't below 0. */
+    static const struct {
+        uint64_t window;
+        double beta;
+        uint64_t taps;
+        uint32_t number;
+    } quarters[] = {
+        {PEL_HANN, 0, 2, 10},         {PEL_HANN, 0, 0, 6},    {PEL_HANN, 0, 16777217, 6},
+        {PEL_HANN, 0, UINT64_MAX, 6}, {PEL_KAISER, -1, 5, 4}, {PEL_KAISER, NAN, 5, 4},
+    };
+    for (size_t i = 0; i < COUNT(quarters); i++)
+        report("a quarter of the rate",
+               pel_lowpass_new(0.25, 1, quarters[i].window, quarters[i].beta, quarters[i].taps),
+               plain(quarters[i].number));
+    r = pel_lowpass_new(0.25, 1, PEL_KAISER, -0.0, 5);
+    report("a beta of -0", r, (pel_report){.count = 5, .value = r.value});
+}
+
+static void spec_examples(void)
+{
+    /* The scope document's, with a cap that its taps would fit: the rate is told first. */
+    PLAIN(pel_spec_num_taps(1000, 100, 60, -8000, 293), 1);
+
+    /* The Rust's: its taps add up to 1, and a cap of 10 is too low. How many they are, by hand: 52.05/2.285/(pi/12) + 1
+     * is 88.01, rounded up 89, which is odd. */
+    REPORT(pel_spec_num_taps(10000, 2000, 60, 48000, 1023), counted(89));
+    pel_report r = pel_spec_design(10000, 2000, 60, 48000, 1023, lend(8 * 89), 8 * 89);
+    report("89 taps", r, (pel_report){.count = 89, .value = r.value});
+    near("89 taps add up to 1", sum_of_taps(89), 1.0, 1e-12);
+    around("89 taps");
+    REFUSED(pel_spec_design(10000, 2000, 60, 48000, 10, lend(8 * 89), 8 * 89), cap(89, 10));
+    REFUSED(pel_spec_design(10000, 2000, 60, 48000, 1023, lend(8 * 88), 8 * 88), length(89, 88));
 }
 
 /* Random bits everywhere: nothing may crash, hang or touch a byte that it should not. */
@@ -158,6 +238,9 @@ static void tests(void)
     formulas();
     lowpass();
     spec();
+    formula_examples();
+    lowpass_examples();
+    spec_examples();
     hostile();
 }
 

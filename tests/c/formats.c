@@ -165,6 +165,16 @@ static void q14_buffers(void)
     convert_q14("in the second section", (double[]){0, 0, 0, 0, 0, 0.5, -0.5, 7.0, 0.25, 8.0}, 10, 7);
     convert_q14("in the third section", (double[]){1, 1, 1, 1, 1, -1, -1, -1, -1, -1, 1, 1, 1, 1, 2}, 15, 14);
 
+    /* By hand, 16384 to the unit: 2 and 2 - 2^-15 are past the largest, 2 - 2^-14, and a NaN isn't taken; the Rust
+     * refuses 2 too. The index counts through all sections. */
+    convert_q14("element 3, a 2", (double[]){0, 0, 0, 2, 0}, 5, 3);
+    convert_q14("element 4, 2 - 2^-15", (double[]){0, 0, 0, 0, 1.999969482421875}, 5, 4);
+    convert_q14("element 5, a NaN", (double[]){0, 0, 0, 0, 0, NAN, 0, 0, 0, 0}, 10, 5);
+    convert_q14("element 7, a 2", (double[]){0.5, -0.5, 0.5, -1.0, 1.0, -2.0, 0.25, 2.0, 0.5, 0.5}, 10, 7);
+    static const int16_t seven[] = {8192, -8192, 8192, -16384, 16384, -32768, 4096};
+    for (size_t i = 0; i < COUNT(seven); i++)
+        expect_count("before element 7", number(i, 2), (uint16_t)seven[i]);
+
     /* Where a real design leaves Q14: next to half the rate a sharp low-pass has b1 next to 2. */
     double x[5], angle = 3.141592653589793 * 2.0 * 23999.0 / 48000.0;
     pel_report r = pel_biquad_coefs(PEL_LOWPASS, 23999, 1000, 48000, lend(40), 40);
@@ -237,6 +247,17 @@ static void floats(void)
     float_is("a NaN with a payload", of_bits(0x7FF0000000000001), 0x7FC00000);
     float_is("a NaN with all bits", of_bits(0x7FFFFFFFFFFFFFFF), 0x7FC00000);
     float_is("a NaN with a sign", of_bits(0xFFF8000000000000), 0x7FC00000);
+
+    /* By hand: 1e300 is past all floats, and what a float holds is as it was. */
+    float_is("1e300", 1e300, 0x7F800000);
+    static const uint32_t three[] = {0x3FC00000, 0xBE800000, 0x7F800000};
+    convert_f32("1.5, -0.25, 1e300", (double[]){1.5, -0.25, 1e300}, 3);
+    for (size_t i = 0; i < COUNT(three); i++)
+        expect_count("1.5, -0.25, infinity", number(i, 4), three[i]);
+    static const uint32_t five[] = {0x3F800000, 0x40000000, 0x3F800000, 0xBF000000, 0x3E800000};
+    convert_f32("1, 2, 1, -0.5, 0.25", (double[]){1, 2, 1, -0.5, 0.25}, 5);
+    for (size_t i = 0; i < COUNT(five); i++)
+        expect_count("a section as it was", number(i, 4), five[i]);
 
     /* Halves of a last place: to the even one, and to the nearer one on either side of it. */
     float_is("1 + 2^-24", 1.0 + 0x1p-24, 0x3F800000);

@@ -70,12 +70,34 @@ static void designs(void)
     expect_count("and is taken", pel_halfband_new(pel_kaiser_beta(60), r.count).number, 0);
 }
 
+static void examples(void)
+{
+    /* By hand: with beta 0 the three taps before the division are 1/pi, 1/2, 1/pi, so the first is 2/(pi + 4) of
+     * their sum and the middle one pi/(pi + 4). */
+    expect_count("3 taps, beta 0", pel_halfband(0, lend(24), 24).number, 0);
+    near("the first of 3 taps", tap(0), 0.2800495767557787, 1e-15);
+    near("the middle of 3 taps", tap(1), 0.4399008464884426, 1e-15);
+
+    /* The Rust's: 23 taps for 60 dB. Their ends, zeros and mirror images are looked at with all others. */
+    expect_count("23 taps", pel_halfband(pel_kaiser_beta(60), lend(8 * 23), 8 * 23).number, 0);
+    near("23 taps add up to 1", sum_of_taps(23), 1.0, 1e-14);
+
+    /* By the limits: 16777219 leaves 3 over a multiple of 4 but is above 2^24, whatever the beta; of 23 taps the beta
+     * is told. The series at 1000 is past the largest double. */
+    PLAIN(pel_halfband_new(5, 16777219), 6);
+    PLAIN(pel_halfband_new(-1, 16777219), 6);
+    PLAIN(pel_halfband_new(quiet, 23), 4);
+    PLAIN(pel_halfband_new(-1, 23), 4);
+    PLAIN(pel_halfband_new(1000, 23), 10);
+}
+
 static void refusals(void)
 {
     REFUSED(pel_halfband(quiet, lend(13), 13), length(8, 13));
     REFUSED(pel_halfband(5, lend(5), 5), length(0, 5));
     REFUSED(pel_halfband(5, lend(8 * 7 + 1), 8 * 7 + 1), length(56, 57));
 
+    /* The scope document's 5 taps and the Rust's 21: both leave 1 over a multiple of 4. */
     REFUSED(pel_halfband(5, lend(8 * 5), 8 * 5), plain(6));
     REFUSED(pel_halfband(5, lend(8 * 21), 8 * 21), plain(6));
     REFUSED(pel_halfband(5, lend(0), 0), plain(6));
@@ -147,6 +169,7 @@ static void hostile(void)
 static void tests(void)
 {
     designs();
+    examples();
     refusals();
     orders();
     hostile();

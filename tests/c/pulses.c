@@ -50,6 +50,23 @@ static void designs(void)
     expect_count("the longest", pel_gaussian_new(0.5, most_samples(2), 2).count, 16777215);
 }
 
+static void examples(void)
+{
+    /* The Rust's: its peak is in the middle, and a bt below 0.2 is refused. */
+    expect_count("bt 0.5", pel_gaussian(0.5, 8, 4, lend(8 * 33), 8 * 33).number, 0);
+    peak_at("bt 0.5 has its peak at tap 16", 33, 16);
+    RANGE(pel_gaussian_new(0.1, 8, 4), 5, 0.2, 1, 0.1);
+
+    /* By hand: 2 pi^2/ln 2 is 28.478, and the samples lie at 1/6, 1/2, 5/6 .. of a symbol to both sides, so
+     * 2 exp(-0.7911) + 2 exp(-7.1195) + .. is 0.908. */
+    near("the divisor of bt 1", pel_gaussian_new(1, 3, 3).value, 0.908, 5e-4);
+
+    /* By the limits: the span first, then the samples, up to (2^24 - 1)/4. */
+    RANGE(pel_gaussian_new(0.5, 8, 9), 6, 2, 8, 9);
+    RANGE(pel_gaussian_new(0.5, 0, 9), 6, 2, 8, 9);
+    RANGE(pel_gaussian_new(0.5, 1, 4), 6, 2, 4194303, 1);
+}
+
 static void refusals(void)
 {
     REFUSED(pel_gaussian(quiet, 0, 0, lend(13), 13), length(8, 13));
@@ -160,7 +177,7 @@ static void rrc_within(double rolloff, uint64_t samples, uint64_t span, double m
 
 static void rrc_designs(void)
 {
-    REPORT(pel_rrc_len(2, 4), counted(9));
+    REPORT(pel_rrc_len(2, 4), counted(9)); /* the scope document's */
     expect_count("the example's taps", pel_rrc_new(0.5, 8, 8).count, 65);
     static const double rolloffs[] = {0.05, 0.1, 0.2, 0.22, 0.25, 0.3, 1.0 / 3.0, 0.35, 0.5, 0.75, 0.999, 1.0};
     static const uint64_t samples[] = {2, 3, 4, 5, 8, 10, 25}, spans[] = {4, 5, 7, 8, 16, 31, 32};
@@ -209,6 +226,37 @@ static void no_intersymbol_interference(void)
         for (uint64_t symbol = 1; symbol <= 16; symbol++)
             near("at another symbol", correlation(r.count, 8 * symbol), 0.0, 1e-3);
     }
+}
+
+static void rrc_examples(void)
+{
+    /* The Rust's lengths, and those past its limits; 2^64 - 1 is 2^64 as a double. */
+    REPORT(pel_rrc_len(8, 10), counted(81));
+    RANGE(pel_rrc_len(1, 10), 6, 2, 1024, 1);
+    RANGE(pel_rrc_len(1025, 10), 6, 2, 1024, 1025);
+    RANGE(pel_rrc_len(UINT64_MAX, 10), 6, 2, 1024, 18446744073709551616.0);
+    RANGE(pel_rrc_len(8, 3), 6, 4, 32, 3);
+    RANGE(pel_rrc_len(8, 33), 6, 4, 32, 33);
+
+    /* The Rust's pulse. By hand: half a symbol from the middle, at tap 36, the formula is 0/0 for a roll-off of 0.5,
+     * and its limit (0.5/sqrt 2) (1 + 2/pi); the middle is 0.5 + 2/pi. */
+    expect_count("a roll-off of 0.5", pel_rrc(0.5, 8, 8, lend(8 * 65), 8 * 65).number, 0);
+    peak_at("a roll-off of 0.5 has its peak at tap 32", 65, 32);
+    near("a roll-off of 0.5 at its corner", tap(36), 0.509081826394114 * tap(32), 1e-15);
+
+    /* By hand: at whole halves of a symbol a roll-off of 1 has 1/3, -1/15, 1/35, -1/63 of the middle, so the energy is
+     * 122369/99225 of the middle's, and 1 by the root of that 0.900481610795753. */
+    expect_count("a roll-off of 1", pel_rrc(1.0, 2, 4, lend(8 * 9), 8 * 9).number, 0);
+    near("the middle for a roll-off of 1", tap(4), 0.900481610795753, 1e-14);
+    near("the tap before it", 3.0 * tap(3), tap(4), 1e-14);
+    near("the first tap", -63.0 * tap(0), tap(4), 1e-13);
+
+    /* The Rust's refusal of 0.01. By the limits' order: the roll-off, the samples, the span, and a buffer last. */
+    RANGE(pel_rrc_new(0.01, 8, 8), 5, 0.05, 1, 0.01);
+    RANGE(pel_rrc_new(quiet, 8, 8), 5, 0.05, 1, quiet);
+    RANGE(pel_rrc_new(0.01, 1, 8), 5, 0.05, 1, 0.01);
+    RANGE(pel_rrc_new(0.5, 1, 3), 6, 2, 1024, 1);
+    REFUSED(pel_rrc(0.5, 8, 3, lend(8 * 64), 8 * 64), range(6, 4, 32, 3));
 }
 
 static void rrc_refusals(void)
@@ -308,9 +356,11 @@ static void rrc_hostile(void)
 static void tests(void)
 {
     designs();
+    examples();
     refusals();
     orders();
     rrc_designs();
+    rrc_examples();
     rrc_corners();
     no_intersymbol_interference();
     rrc_refusals();

@@ -119,6 +119,16 @@ static void buffers(void)
     convert("one", (double[]){-1.0}, 1, 1);
     convert("none", (double[]){quiet}, 0, 0);
 
+    /* By hand: 32768 x + 0.5 is rounded before its floor, so the double below 2^-16, 3EEFFFFFFFFFFFFF, gives 1 as 2^-16
+     * does; and the double above the limit, 3FF028D570A3D70B, is the first that isn't taken. */
+    REPORT(pel_q15_tap(1.5258789062499998e-5), ((pel_report){.value = 1}));
+    expect_count("the double below 2^-16", bits(1.5258789062499998e-5), 0x3EEFFFFFFFFFFFFF);
+    expect_count("the limit", bits(1.0099691772460937), bits(limit));
+    expect_count("the double above the limit", bits(1.009969177246094), 0x3FF028D570A3D70B);
+    convert("element 2", (double[]){0.5, -0.25, 1.009969177246094, 0.5}, 4, 2);
+    expect("the Rust's 0.5", code(0), 16384);
+    expect("the Rust's -0.25", code(1), -8192);
+
     /* Lengths: the source in bytes, the destination in bytes, both in elements; 11 after all of them. */
     const double x[4] = {quiet, 0.5, 0.25, 2.0};
     lend_source(x, 4);

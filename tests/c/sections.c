@@ -43,6 +43,24 @@ static double gain(uint64_t i, double w)
     return cabs(above / below);
 }
 
+/* The gain of the section at 0 and at half the rate, where z is 1 and -1, and the square of its gain at a quarter,
+ * where z is i: from the numbers alone. */
+static double gain_at_0(uint64_t i)
+{
+    return (tap(5 * i) + tap(5 * i + 1) + tap(5 * i + 2)) / (1.0 + tap(5 * i + 3) + tap(5 * i + 4));
+}
+
+static double gain_at_half(uint64_t i)
+{
+    return (tap(5 * i) - tap(5 * i + 1) + tap(5 * i + 2)) / (1.0 - tap(5 * i + 3) + tap(5 * i + 4));
+}
+
+static double power_at_quarter(uint64_t i)
+{
+    double b = tap(5 * i) - tap(5 * i + 2), a = 1.0 - tap(5 * i + 4);
+    return (b * b + tap(5 * i + 1) * tap(5 * i + 1)) / (a * a + tap(5 * i + 3) * tap(5 * i + 3));
+}
+
 /* Within 1e-14, or a NaN where the formula has one. */
 static void coefficient(const char *what, double got, double want)
 {
@@ -138,6 +156,94 @@ static void extreme_biquads(void)
     static const double still[] = {1, -2, 1, -2, 1};
     for (uint64_t k = 0; k < 5; k++)
         expect("no angle", tap(k), still[k]);
+}
+
+static void biquad_examples(void)
+{
+    /* The Rust's low-pass; by the Cookbook it lets 0 through and half the rate not. */
+    report("the Rust's low-pass", biquad(PEL_LOWPASS, 1000, 0.7071, 48000), counted(5));
+    near("its gain at 0", gain_at_0(0), 1.0, 1e-12);
+    near("its gain at half the rate", gain_at_half(0), 0.0, 1e-12);
+
+    /* The Rust's notch above half the rate. By the order of the limits: the centre and the rate, then the quality. */
+    REFUSED(biquad(PEL_NOTCH, 30000, 0.7071, 48000), range(2, 0, 24000, 30000));
+    REFUSED(biquad(PEL_BANDPASS, 30000, 0, 48000), range(2, 0, 24000, 30000));
+    REFUSED(biquad(PEL_HIGHPASS, 24000, 0.7071, 48000), range(2, 0, 24000, 24000));
+    REFUSED(biquad(PEL_LOWPASS, 1000, quiet, 48000), range(5, 0, inf, quiet));
+    REFUSED(biquad(PEL_LOWPASS, 1000, 0.7071, inf), range(2, 0, inf, 1000));
+    REFUSED(biquad(PEL_LOWPASS, 1000, 0.7071, -48000), range(2, 0, -24000, 1000));
+
+    /* By hand: 2 pi 8e307 is past the largest double, and no angle so large has a sine. */
+    report("past all", biquad(PEL_LOWPASS, 8e307, 0.7071, 1.7e308), counted(5));
+    for (uint64_t k = 0; k < 5; k++)
+        expect("past all", tap(k), quiet);
+    around("past all");
+}
+
+/* Next to where alpha and where 2 pi centre overflow, to the bit. The answers were worked out apart from the library,
+ * by the Cookbook's formulas over Python's floats with the scope document's sine and cosine, and where they change by
+ * a bisection over the bit patterns. Alpha is sin w0/(2 q): at a quarter of the rate, where the sine is 1, it is 2^1024
+ * and so infinite at q = 2^-1025, and finite above. Elsewhere the last such quality is the sine times that. */
+static void overflowing_biquads(void)
+{
+    expect("2^-1025", 2.781342323134e-309, 0x1p-1025);
+    expect_count("its neighbour", bits(2.781342323134007e-309), bits(2.781342323134e-309) + 1);
+    expect_count("neighbours at a fifth", bits(2.645213740464093e-309), bits(2.64521374046409e-309) + 1);
+    static const struct {
+        uint64_t response;
+        double centre, q, want[5];
+    } alphas[] = {
+        {PEL_LOWPASS, 0.25, 2.781342323134e-309, {0, 0, 0, -0.0, NAN}},
+        {PEL_LOWPASS, 0.25, 2.781342323134007e-309,
+         {2.781342323134007e-309, 5.562684646268013e-309, 2.781342323134007e-309, -0.0, -1}},
+        {PEL_HIGHPASS, 0.25, 2.781342323134e-309, {0, -0.0, 0, -0.0, NAN}},
+        {PEL_HIGHPASS, 0.25, 2.781342323134007e-309,
+         {2.781342323134007e-309, -5.562684646268013e-309, 2.781342323134007e-309, -0.0, -1}},
+        {PEL_BANDPASS, 0.25, 2.781342323134e-309, {NAN, 0, NAN, -0.0, NAN}},
+        {PEL_BANDPASS, 0.25, 2.781342323134007e-309, {1, 0, -1, -0.0, -1}},
+        {PEL_NOTCH, 0.25, 2.781342323134e-309, {0, -0.0, 0, -0.0, NAN}},
+        {PEL_NOTCH, 0.25, 2.781342323134007e-309, {5.562684646268013e-309, -0.0, 5.562684646268013e-309, -0.0, -1}},
+        {PEL_LOWPASS, 0.2, 2.64521374046409e-309, {0, 0, 0, -0.0, NAN}},
+        {PEL_LOWPASS, 0.2, 2.645213740464093e-309,
+         {1.9218602781113e-309, 3.843720556222597e-309, 1.9218602781113e-309, -3.43792818009081e-309, -1}},
+        {PEL_HIGHPASS, 0.2, 2.64521374046409e-309, {0, -0.0, 0, -0.0, NAN}},
+        {PEL_HIGHPASS, 0.2, 2.645213740464093e-309,
+         {3.640824368156707e-309, -7.28164873631341e-309, 3.640824368156707e-309, -3.43792818009081e-309, -1}},
+        {PEL_BANDPASS, 0.2, 2.64521374046409e-309, {NAN, 0, NAN, -0.0, NAN}},
+        {PEL_BANDPASS, 0.2, 2.645213740464093e-309, {1, 0, -1, -3.43792818009081e-309, -1}},
+        {PEL_NOTCH, 0.2, 2.64521374046409e-309, {0, -0.0, 0, -0.0, NAN}},
+        {PEL_NOTCH, 0.2, 2.645213740464093e-309,
+         {5.562684646268003e-309, -3.43792818009081e-309, 5.562684646268003e-309, -3.43792818009081e-309, -1}},
+    };
+    for (size_t i = 0; i < COUNT(alphas); i++) {
+        char what[120];
+        snprintf(what, sizeof what, "%s (%g, %.17g, 1)", names[alphas[i].response], alphas[i].centre, alphas[i].q);
+        report(what, biquad(alphas[i].response, alphas[i].centre, alphas[i].q, 1), counted(5));
+        for (uint64_t k = 0; k < 5; k++)
+            expect(what, tap(k), alphas[i].want[k]);
+        around(what);
+    }
+
+    /* 2 pi centre is the largest double at the first of these, and infinite at the second. At the largest rate the
+     * angle of the first is 1. */
+    static const double last = 2.861117485757028e307, next = 2.8611174857570283e307;
+    expect_count("neighbours", bits(next), bits(last) + 1);
+    static const double ones[][5] = {
+        {0.1617815900952932, 0.3235631801905864, 0.1617815900952932, -0.7605952110817249, 0.40772157146289784},
+        {0.5420791956361557, -1.0841583912723114, 0.5420791956361557, -0.7605952110817249, 0.40772157146289784},
+        {0.29613921426855105, 0, -0.29613921426855105, -0.7605952110817249, 0.40772157146289784},
+        {0.7038607857314488, -0.7605952110817249, 0.7038607857314488, -0.7605952110817249, 0.40772157146289784},
+    };
+    for (uint64_t response = PEL_LOWPASS; response <= PEL_NOTCH; response++) {
+        report("the last angle", biquad(response, last, 1, huge), counted(5));
+        for (uint64_t k = 0; k < 5; k++)
+            expect("the last angle", tap(k), ones[response][k]);
+        around("the last angle");
+        report("the first infinite angle", biquad(response, next, 1, huge), counted(5));
+        for (uint64_t k = 0; k < 5; k++)
+            expect("the first infinite angle", tap(k), quiet);
+        around("the first infinite angle");
+    }
 }
 
 static void biquad_refusals(void)
@@ -279,6 +385,30 @@ static void butterworths(void)
     around("an infinite angle");
 }
 
+static void butterworth_examples(void)
+{
+    /* The Rust's: the section with the lower quality comes first, and its a2 is the lower. By hand: the gain of all at
+     * 0 is 1, and half the power passes at the cutoff. */
+    report("order 4 at 1000", pel_butterworth_sos(PEL_LOWPASS, 4, 1000, 48000, lend(80), 80), counted(10));
+    expect_count("the a2 of section 0 is below that of section 1", tap(4) < tap(9), 1);
+    near("the gain of both at 0", gain_at_0(0) * gain_at_0(1), 1.0, 1e-12);
+    report("order 4 at 12000", pel_butterworth_sos(PEL_HIGHPASS, 4, 12000, 48000, lend(80), 80), counted(10));
+    near("half the power at 12000", power_at_quarter(0) * power_at_quarter(1), 0.5, 1e-14);
+
+    /* The Rust's buffer of one section for order 4. By the order of the limits: 7 before 6, 8 before 2. */
+    REFUSED(pel_butterworth_sos(PEL_LOWPASS, 4, 24000, 48000, lend(40), 40), length(10, 5));
+    REFUSED(pel_butterworth_sos(PEL_BANDPASS, 4, 1000, 48000, lend(40), 40), plain(7));
+    REFUSED(pel_butterworth_sos(PEL_BANDPASS, 3, 1000, 48000, lend(40), 40), plain(7));
+
+    /* Next to where 2 pi cutoff overflows, as of a biquad. */
+    butterworth_accepted(PEL_LOWPASS, 4, 2.861117485757028e307, huge);
+    for (uint64_t k = 0; k < 10; k++)
+        expect_count("the last angle", isnan(tap(k)), 0);
+    pel_butterworth_sos(PEL_LOWPASS, 4, 2.8611174857570283e307, huge, lend(80), 80);
+    for (uint64_t k = 0; k < 10; k++)
+        expect("the first infinite angle", tap(k), quiet);
+}
+
 static void butterworth_refusals(void)
 {
     REFUSED(pel_butterworth_sos(4, 0, quiet, quiet, lend(13), 13), plain(7));
@@ -401,6 +531,18 @@ static void preemphases(void)
     around("the largest rate");
 }
 
+static void preemphasis_examples(void)
+{
+    /* The Rust's 50 us; by hand: the gain at half the rate is tau times the pole, 50e-6 2 pi 48000/2.4. */
+    report("50 us", preemphasis(50e-6, 48000), counted(3));
+    near("its gain at half the rate", (tap(0) - tap(1)) / (1.0 - tap(2)), 6.283185307179586, 1e-12);
+
+    /* The Rust's 2 ms and 32 kHz; the time constant is told first. */
+    REFUSED(preemphasis(2e-3, 48000), range(5, 0, 0.001, 2e-3));
+    REFUSED(preemphasis(50e-6, 32000), range(1, 40000, inf, 32000));
+    REFUSED(preemphasis(2e-3, 32000), range(5, 0, 0.001, 2e-3));
+}
+
 static void preemphasis_refusals(void)
 {
     REFUSED(pel_preemphasis_coefs(quiet, quiet, lend(0), 0), length(24, 0));
@@ -488,11 +630,15 @@ static void hostile(void)
 static void tests(void)
 {
     biquads();
+    biquad_examples();
     extreme_biquads();
+    overflowing_biquads();
     biquad_refusals();
     butterworths();
+    butterworth_examples();
     butterworth_refusals();
     preemphases();
+    preemphasis_examples();
     preemphasis_refusals();
     orders();
     hostile();

@@ -1,5 +1,18 @@
 /* What the C tests of designers share: lent buffers in which every stray byte shows, and reports held
- * to every field. Included first, because it asks the system for mmap. */
+ * to every field. Included first, because it asks the system for mmap.
+ *
+ * Each program has worked examples: their answers are known from outside, and each says from where, the scope
+ * document, the Rust's own examples, a paper or a computation by hand. What the port has beside its exports is held
+ * to its examples by the export with the same definition:
+ *   firwin_lowpass, the taps of Lowpass      pel_lowpass
+ *   DesignSpec's design                      pel_spec_design
+ *   halfband_taps, HalfbandDesign's taps     pel_halfband
+ *   gaussian, rrc, channelizer_prototype     the export of that name
+ *   q15_tap, q14_from_f64 at an index        pel_to_q15, pel_to_q14
+ *   an f64 as an f32, and its pattern        pel_to_f32, pel_to_f32_sos
+ *   fill_f32, fill_q15                       pel_hann_f32, pel_hann_q15 and those of the other two windows
+ *   window_gain of a slice                   pel_window_gain
+ * The zeros that a refused section has beside its verdict are in no buffer: there it stays as it came. */
 #ifndef TICKET_H
 #define TICKET_H
 
@@ -161,6 +174,24 @@ static inline void near(const char *what, double got, double want, double most)
         return;
     wrong++;
     printf("%s gives %.17g, which is not within %g of %.17g\n", what, got, most, want);
+}
+
+/* The sum by rising index, from +0. */
+static inline double sum_of_taps(uint64_t n)
+{
+    double sum = 0.0;
+    for (uint64_t i = 0; i < n; i++)
+        sum += tap(i);
+    return sum;
+}
+
+/* Every tap but the one at `peak` is below it. */
+static inline void peak_at(const char *what, uint64_t n, uint64_t peak)
+{
+    uint64_t below = 0;
+    for (uint64_t i = 0; i < n; i++)
+        below += tap(i) < tap(peak);
+    expect_count(what, below, n - 1);
 }
 
 /* The taps' total against the bound that is proved of it, n (1 + A)/2^52, A the sum of their sizes. The

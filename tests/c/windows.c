@@ -183,6 +183,18 @@ static void examples(void)
     known(kaiser, 2, PEL_SYMMETRIC, 3, (double[]){end, 1, end}, (double[]){14375, 32767, 14375});
     known(kaiser, 2, PEL_PERIODIC, 2, (double[]){end, 1}, (double[]){14375, 32767});
     known(kaiser, 2, PEL_PERIODIC, 1, (double[]){end}, (double[]){14375});
+    /* The Rust's: eight Blackman-Harris samples, and Kaiser's window with beta 0. */
+    report("eight", pel_blackman_harris_f32(PEL_PERIODIC, lend(32), 32), counted(8));
+    near("the first of eight", sample(0), 6e-5, 1e-6);
+    near("the fifth of eight", sample(4), 1.0, 1e-6);
+    static const double five[] = {1, 1, 1, 1, 1}, five_full[] = {32767, 32767, 32767, 32767, 32767};
+    known(kaiser, 0, PEL_SYMMETRIC, 5, five, five_full);
+    known(harris, 0, PEL_PERIODIC, 2, (double[]){0.00006f, 1}, (double[]){2, 32767});
+    /* I0(1) is 1.2660658777520084 by the Rust's example, and 1 by that 0.789848315. */
+    report("beta 1", pel_kaiser_f32(1, PEL_SYMMETRIC, lend(12), 12), counted(3));
+    near("the first for beta 1", sample(0), 0.789848315, 1e-6);
+    expect("the middle for beta 1", sample(1), 1.0);
+    expect("the last for beta 1", sample(2), sample(0));
     for (size_t i = 0; i < COUNT(shapes); i++) {
         known(&shapes[i], 5, PEL_SYMMETRIC, 1, ones, full);
         known(&shapes[i], 5, PEL_SYMMETRIC, 0, NULL, NULL);
@@ -295,6 +307,7 @@ static void gains(void)
     gain_is("below 0", (const float[]){-1, -3}, 2, -2, 20.0 / 16.0);
     gain_is("a sum of 0", (const float[]){1, -1}, 2, 0, inf);
     gain_is("zeros", (const float[]){0, 0}, 2, 0, quiet);
+    gain_is("four zeros", (const float[]){0, 0, 0, 0}, 4, 0, quiet);
     gain_is("a NaN", (const float[]){1, NAN, 1}, 3, quiet, quiet);
     gain_is("an infinity", (const float[]){1, INFINITY}, 2, inf, quiet);
     gain_is("both infinities", (const float[]){-INFINITY, INFINITY}, 2, quiet, quiet);
@@ -328,6 +341,13 @@ static void gains(void)
     pel_blackman_harris_f32(PEL_PERIODIC, lend(4 * 4096), 4 * 4096);
     double a0 = 0.35875, others = 0.48829 * 0.48829 + 0.14128 * 0.14128 + 0.01168 * 0.01168;
     figures("Blackman-Harris", 4096, a0, 1.0 + others / 2.0 / (a0 * a0), 1e-6);
+    /* The same of eight samples, by hand: over a whole turn a cosine sums to 0, and its square to half the number of
+     * samples. */
+    pel_blackman_harris_f32(PEL_PERIODIC, lend(32), 32);
+    pel_gain_report eight = pel_window_gain(out.at, 32);
+    expect_count("eight samples", eight.number, 0);
+    near("the gain of eight samples", eight.gain, 0.35875, 1e-7);
+    near("the bandwidth of eight samples", eight.bandwidth, 2.00435294, 1e-6);
     /* Harris, On the Use of Windows for Harmonic Analysis (1978), table I; beta is pi times his alpha. */
     static const double table[][3] = {{2.0, 0.49, 1.50}, {2.5, 0.44, 1.65}, {3.0, 0.40, 1.80}, {3.5, 0.37, 1.93}};
     for (size_t i = 0; i < COUNT(table); i++) {
@@ -394,6 +414,10 @@ static void refusals(void)
     REFUSED(pel_blackman_harris_q15(PEL_SYMMETRIC, lend(1), 1), length(0, 1));
     REFUSED(pel_kaiser_f32(quiet, PEL_SYMMETRIC, lend(6), 6), length(4, 6));
     REFUSED(pel_kaiser_f32(quiet, PEL_PERIODIC, lend(0), 0), plain(4));
+    /* The Rust's beta of -1: in a buffer, in an empty one, and as Q15 numbers. */
+    REFUSED(pel_kaiser_f32(-1, PEL_SYMMETRIC, lend(8), 8), plain(4));
+    REFUSED(pel_kaiser_f32(-1, PEL_PERIODIC, lend(0), 0), plain(4));
+    REFUSED(pel_kaiser_q15(-1, PEL_PERIODIC, lend(4), 4), plain(4));
     REFUSED(pel_kaiser_q15(-tiny, PEL_PERIODIC, lend(16), 16), plain(4));
     REFUSED(pel_kaiser_q15(inf, PEL_SYMMETRIC, lend(2), 2), plain(4));
     expect_count("the largest beta is taken", pel_kaiser_f32(huge, PEL_PERIODIC, lend(16), 16).number, 0);

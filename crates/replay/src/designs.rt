@@ -1,51 +1,51 @@
-// Kinds 16 to 20: the low-pass designs. A line has the arguments of an export and its report; those that write to a buffer are judged apart.
-use crate::written;
-use c_lowpass::lowpass::pel_lowpass_new;
-use c_lowpass::spec::pel_spec_lowpass;
-use c_lowpass::spec::pel_spec_num_taps;
+// Kinds 21, 23 and 25 to 27: the half-band, the Gaussian pulse and the channelizer without a buffer. A line has the arguments of an export and its report.
+use c_lowpass::prototype::pel_channelizer_lowpass;
+use c_lowpass::prototype::pel_channelizer_taps;
+use c_lowpass::prototype::pel_channelizer_taps_per_branch;
+use c_pulses::halfbands::pel_halfband_new;
+use c_pulses::pulse::pel_gaussian_new;
 use replay_lines::line::WORDS;
 use replay_lines::pattern::float_at;
-use replay_lines::tally;
-use replay_lines::tally::COUNTS;
 use replay_lines::tally::Verdict;
 use replay_lines::told;
 use verdict::Report;
 
-// The words before the report, where nothing is written.
-const ARGUMENTS: usize = 5;
-
-fn lowpass_new(words: &[u64; WORDS]) -> Report {
-    let cutoff = float_at(words, 0);
-    let rate = float_at(words, 1);
-    let beta = float_at(words, 3);
-    pel_lowpass_new(cutoff, rate, words[2], beta, words[4])
+// How many words a kind has before its report.
+fn arguments(kind: usize) -> usize {
+    match kind {
+        21 => 2,
+        23 => 3,
+        25 | 26 => 4,
+        _ => 5,
+    }
 }
 
-fn spec(kind: usize, words: &[u64; WORDS]) -> Report {
-    let cutoff = float_at(words, 0);
-    let transition = float_at(words, 1);
-    let attenuation = float_at(words, 2);
-    let rate = float_at(words, 3);
-    let cap = words[4];
+fn channelizer(kind: usize, words: &[u64; WORDS]) -> Report {
+    let passband = float_at(words, 1);
+    let stopband = float_at(words, 2);
+    let attenuation = float_at(words, 3);
     match kind {
-        18 => pel_spec_num_taps(cutoff, transition, attenuation, rate, cap),
-        _ => pel_spec_lowpass(cutoff, transition, attenuation, rate, cap),
+        25 => pel_channelizer_taps(words[0], passband, stopband, attenuation),
+        _ => pel_channelizer_taps_per_branch(words[0], passband, stopband, attenuation),
+    }
+}
+
+fn channelizer_lowpass(words: &[u64; WORDS]) -> Report {
+    let passband = float_at(words, 2);
+    let stopband = float_at(words, 3);
+    let attenuation = float_at(words, 4);
+    pel_channelizer_lowpass(words[0], words[1], passband, stopband, attenuation)
+}
+
+fn answer(kind: usize, words: &[u64; WORDS]) -> Report {
+    match kind {
+        21 => pel_halfband_new(float_at(words, 0), words[1]),
+        23 => pel_gaussian_new(float_at(words, 0), words[1], words[2]),
+        25 | 26 => channelizer(kind, words),
+        _ => channelizer_lowpass(words),
     }
 }
 
 pub(crate) fn judge(kind: usize, words: &[u64; WORDS], count: usize) -> Verdict {
-    match kind {
-        16 => told::judge(lowpass_new(words), words, ARGUMENTS, count),
-        18 | 19 => told::judge(spec(kind, words), words, ARGUMENTS, count),
-        _ => written::judge(kind, words, count),
-    }
-}
-
-// Prints a line for each kind.
-pub(crate) fn report(counts: &[u64; COUNTS]) {
-    tally::named(b"lowpass_new", 16, counts);
-    tally::named(b"lowpass", 17, counts);
-    tally::named(b"spec_num_taps", 18, counts);
-    tally::named(b"spec_lowpass", 19, counts);
-    tally::named(b"spec_design", 20, counts);
+    told::judge(answer(kind, words), words, arguments(kind), count)
 }

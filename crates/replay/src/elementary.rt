@@ -1,8 +1,6 @@
 // Kinds 1 to 8: the elementary functions. A line has the bits of an argument and those of the answer.
 use replay_lines::line::WORDS;
 use replay_lines::pattern;
-use replay_lines::tally;
-use replay_lines::tally::COUNTS;
 use replay_lines::tally::Verdict;
 
 fn answer(kind: usize, x: f64) -> f64 {
@@ -28,16 +26,4 @@ pub(crate) fn judge(kind: usize, words: &[u64; WORDS], count: usize) -> Verdict 
     } else {
         Verdict::Differs
     }
-}
-
-// Prints a line for each kind.
-pub(crate) fn report(counts: &[u64; COUNTS]) {
-    tally::named(b"floor", 1, counts);
-    tally::named(b"ceil", 2, counts);
-    tally::named(b"fabs", 3, counts);
-    tally::named(b"sqrt", 4, counts);
-    tally::named(b"sin", 5, counts);
-    tally::named(b"cos", 6, counts);
-    tally::named(b"exp", 7, counts);
-    tally::named(b"pow04", 8, counts);
 }

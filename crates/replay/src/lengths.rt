@@ -5,7 +5,6 @@ use replay_lines::line::WORDS;
 use replay_lines::pattern;
 use replay_lines::pattern::float_at;
 use replay_lines::tally;
-use replay_lines::tally::COUNTS;
 use replay_lines::tally::Verdict;
 use replay_lines::told;
 use verdict::Report;
@@ -43,13 +42,4 @@ pub(crate) fn judge(kind: usize, words: &[u64; WORDS], count: usize) -> Verdict 
         return judge_beta(words, count);
     }
     told::judge(answer(kind, words), words, arguments(kind), count)
-}
-
-// Prints a line for each kind.
-pub(crate) fn report(counts: &[u64; COUNTS]) {
-    tally::named(b"bessel_i0", 11, counts);
-    tally::named(b"kaiser_beta", 12, counts);
-    tally::named(b"kaiserord", 13, counts);
-    tally::named(b"halfband_len", 14, counts);
-    tally::named(b"delay", 15, counts);
 }

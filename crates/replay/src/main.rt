@@ -1,8 +1,14 @@
-// Replays a stored list of the Rust's answers: what the port answers to the same questions is compared with them by bits. This is the list of the kinds up to 20.
+// Replays the stored list of the Rust's answers: what the port answers to the same questions is compared with them by bits.
 
+mod converted;
 mod designs;
 mod elementary;
 mod lengths;
+mod level;
+mod lowpasses;
+mod names;
+mod q15;
+mod told;
 mod written;
 
 use replay_lines::line::TEXT;
@@ -18,7 +24,13 @@ fn judge(kind: usize, words: &[u64; WORDS], count: usize) -> Verdict {
     match kind {
         1..=8 => elementary::judge(kind, words, count),
         11..=15 => lengths::judge(kind, words, count),
-        16..=20 => designs::judge(kind, words, count),
+        16 | 18 | 19 => lowpasses::judge(kind, words, count),
+        21 | 23 | 25..=27 => designs::judge(kind, words, count),
+        29 | 30 => q15::judge(kind, words, count),
+        32 | 33 | 38 => told::judge(kind, words, count),
+        17 | 20 | 22 | 24 | 28 | 34..=37 | 42..=47 => written::judge(kind, words, count),
+        31 | 39..=41 => converted::judge(kind, words, count),
+        48 => level::judge(words, count),
         _ => Verdict::Unreadable,
     }
 }
@@ -46,8 +58,13 @@ fn judge_all(counts: &mut [u64; COUNTS]) -> Tally {
 fn main() {
     let mut counts = [0u64; COUNTS];
     let t = judge_all(&mut counts);
-    elementary::report(&counts);
-    lengths::report(&counts);
-    designs::report(&counts);
+    names::functions(&counts);
+    names::lengths(&counts);
+    names::lowpasses(&counts);
+    names::designs(&counts);
+    names::q15(&counts);
+    names::beside(&counts);
+    names::formats(&counts);
+    names::windows(&counts);
     tally::total(t);
 }

@@ -1,70 +1,17 @@
 //! The program that compares the port with the Rust: `compare`, `day`, `list`, `bench`.
 
-mod asked;
-mod bench;
-mod butterworth_faults;
-mod cases;
-mod channelizer_faults;
-mod channelizer_inputs;
-mod compare;
-mod conversion_bench;
-mod conversion_inputs;
-mod conversions;
+mod channelizer;
 mod day;
-mod day_state;
-mod design_bench;
-mod designers;
-mod draw;
-mod exact;
-mod f32_faults;
-mod f32_inputs;
-mod faults;
-mod format_kinds;
 mod formats;
 mod functions;
-mod gain_faults;
-mod gain_inputs;
-mod gains;
-mod gaussian_faults;
-mod gaussian_inputs;
-mod halfband_faults;
-mod halfband_inputs;
-mod hostile;
-mod inputs;
-mod kaiser_faults;
-mod kinds;
-mod large_inputs;
-mod lent;
-mod list;
-mod lowpass_faults;
-mod lowpass_inputs;
-mod port;
-mod q14_faults;
-mod q14_inputs;
-mod q15_faults;
-mod q15_inputs;
-mod random;
-mod report;
-mod rrc_faults;
-mod rrc_inputs;
-mod rrc_kinds;
-mod rust_lent;
-mod section_faults;
-mod section_inputs;
-mod section_kinds;
+mod gaussian;
+mod halfband;
+mod kaiser;
+mod lowpass;
+mod rrc;
+mod run;
 mod sections;
-mod smoke;
-mod spec_faults;
-mod spec_inputs;
-mod ticket_compare;
-mod ticket_faults;
-mod ticket_inputs;
-mod tickets;
-mod totals;
-mod window_bench;
-mod window_faults;
-mod window_inputs;
-mod window_kinds;
+mod spec;
 mod windows;
 
 use std::path::Path;
@@ -93,11 +40,11 @@ fn known(words: &[String], names: &[&str]) -> bool {
 /// Puts wrong functions and designers in the port's place, and lists of taps that hardly keep or
 /// break a total before its check; true if each one was noticed.
 fn faults_noticed(seed: u64) -> bool {
-    let (functions, of_functions) = compare::run_faults(seed);
-    let (designers, of_designers) = ticket_compare::run_faults(seed);
+    let (functions, of_functions) = functions::compare::run_faults(seed);
+    let (designers, of_designers) = run::compare::run_faults(seed);
     let (noticed, all) = (functions + designers, of_functions + of_designers);
     println!("planted faults: {noticed} of {all} noticed");
-    let (judged, lists) = totals::run_faults();
+    let (judged, lists) = run::totals::run_faults();
     println!("lists of taps for the totals: {judged} of {lists} judged rightly");
     noticed == all && judged == lists
 }
@@ -108,11 +55,11 @@ fn run(words: &[String]) -> Option<bool> {
     match command.as_str() {
         "compare" if known(rest, &["--count", "--tickets", "--seed"]) => {
             let count = number(rest, "--count", 2_000_000)?;
-            let tickets = number(rest, "--tickets", 15_000 * kinds::SHARES)?;
+            let tickets = number(rest, "--tickets", 15_000 * run::kinds::SHARES)?;
             let seed = number(rest, "--seed", 1)?;
-            let ready = smoke::run() & faults_noticed(seed);
-            let functions = compare::run(count, seed);
-            let designers = ticket_compare::run(tickets, seed);
+            let ready = run::smoke::run() & faults_noticed(seed);
+            let functions = functions::compare::run(count, seed);
+            let designers = run::compare::run(tickets, seed);
             Some(ready && functions && designers)
         }
         "day"
@@ -132,15 +79,12 @@ fn run(words: &[String]) -> Option<bool> {
             Some(day::run(&asked, Path::new(state)))
         }
         "list" if known(rest, &["--count", "--tickets"]) => {
-            list::run(number(rest, "--count", 150)? as usize);
-            list::run_tickets(number(rest, "--tickets", 40)? as usize);
+            run::list::run(number(rest, "--count", 150)? as usize);
+            run::list::run_tickets(number(rest, "--tickets", 40)? as usize);
             Some(true)
         }
         "bench" if rest.is_empty() => {
-            bench::run();
-            design_bench::run();
-            conversion_bench::run();
-            window_bench::run();
+            run::bench::run();
             Some(true)
         }
         _ => None,

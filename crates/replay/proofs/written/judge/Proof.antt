@@ -29,8 +29,11 @@ slice-aggregate-write c = simp length-take (omega arith)
 write-requires : tie.Need-write-requires
 write-requires c κs = search needs
 
-judge-requires : tie.Need-judge-requires
-judge-requires c κs = search needs
+width-requires : tie.Need-width-requires
+width-requires c κs = search needs
+
+judge-elements-requires : tie.Need-judge-elements-requires
+judge-elements-requires c κs = search needs
 
 returns : tie.Need-returns
 returns c = search needs
@@ -47,5 +50,6 @@ judge-spec =
     array-borrow-prefix-out
     slice-aggregate-write
     write-requires
-    judge-requires
+    width-requires
+    judge-elements-requires
     returns)

@@ -1,0 +1,77 @@
+//! What the series, Kaiser's formulas and the delay must meet.
+
+use crate::run::cases::{PLAIN, RANGE, case};
+use crate::run::kinds::About;
+use crate::run::tickets::{Kind, LARGEST_COUNT, Ticket};
+
+pub const KINDS: &[About] = &[
+    About {
+        kind: Kind::BesselI0,
+        name: "bessel_i0",
+        number: 11,
+        share: 8,
+        refusals: &[],
+        totals: false,
+        cases: &[
+            case!("one term", |_, report| report.count == 1),
+            case!("500 terms", |_, report| report.count == 500),
+            case!("an infinite sum", |_, report| report.value.is_infinite()),
+            case!("a NaN", |_, report| report.value.is_nan()),
+        ],
+    },
+    About {
+        kind: Kind::KaiserBeta,
+        name: "kaiser_beta",
+        number: 12,
+        share: 8,
+        refusals: &[],
+        totals: false,
+        cases: &[
+            case!("0", |_, report| report.value == 0.0),
+            case!("an infinite beta", |_, report| report.value.is_infinite()),
+            case!("from 21 to 50", |_, report| report.value > 0.0
+                && report.value < 4.5),
+            case!("above 50", |_, report| report.value > 4.6),
+        ],
+    },
+    About {
+        kind: Kind::Kaiserord,
+        name: "kaiserord",
+        number: 13,
+        share: 12,
+        refusals: &[(3, PLAIN), (3, RANGE), (4, PLAIN)],
+        totals: false,
+        cases: &[
+            case!("one tap", |_, report| report.count == 1),
+            case!("16777217 taps", |_, report| report.count == LARGEST_COUNT),
+            case!("two negative signs accepted", |ticket, report| {
+                matches!(ticket, Ticket::Kaiserord { rate, .. } if *rate < 0.0)
+                    && report.is_accepted()
+            }),
+            case!("a negative largest value", |_, report| report.largest < 0.0),
+        ],
+    },
+    About {
+        kind: Kind::HalfbandLen,
+        name: "halfband_len",
+        number: 14,
+        share: 8,
+        refusals: &[(3, PLAIN), (3, RANGE), (4, PLAIN)],
+        totals: false,
+        cases: &[
+            case!("3 taps", |_, report| report.count == 3),
+            case!("16777219 taps", |_, report| report.count
+                == LARGEST_COUNT + 2),
+        ],
+    },
+    About {
+        kind: Kind::Delay,
+        name: "delay",
+        number: 15,
+        share: 4,
+        refusals: &[(6, PLAIN)],
+        totals: false,
+        cases: &[case!("the largest count", |_, report| report.count
+            == u64::MAX / 2)],
+    },
+];

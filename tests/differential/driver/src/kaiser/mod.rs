@@ -1,0 +1,61 @@
+//! The Rust's answers to the series and to Kaiser's formulas, and the scope document's to the delay.
+
+pub mod faults;
+pub mod inputs;
+pub mod kinds;
+
+use sdrk_blocks::design::{halfband_len, kaiser_beta, kaiserord};
+use sdrk_core::window::bessel_i0;
+
+use crate::functions::same;
+use crate::run::designers::{counted, refusal};
+use crate::run::report::Report;
+
+/// The sum of the Bessel series and its number of terms, by the scope document: a term after
+/// another until one is below 1e-17 of the sum, at most 500.
+pub fn series(x: f64) -> (f64, u64) {
+    let (mut term, mut sum, mut terms) = (1.0, 1.0, 0);
+    while terms < 500 {
+        terms += 1;
+        let factor = x / 2.0 / terms as f64;
+        term *= factor * factor;
+        sum += term;
+        if term < 1e-17 * sum {
+            break;
+        }
+    }
+    (sum, terms)
+}
+
+/// The Rust's series, with the number of terms of the scope document's.
+pub fn rust_series(x: f64) -> Report {
+    let (sum, terms) = series(x);
+    let value = bessel_i0(x);
+    assert!(same(sum, value), "the counted series of {x:?} is another");
+    Report::accepted(terms, value)
+}
+
+/// The Rust's shape of Kaiser's window.
+pub fn beta(attenuation: f64) -> Report {
+    Report::accepted(0, kaiser_beta(attenuation))
+}
+
+/// The Rust's number of taps and beta.
+pub fn order(ripple: f64, transition: f64, rate: f64) -> Report {
+    kaiserord(ripple, transition, rate).map_or_else(refusal, |(count, beta)| {
+        Report::accepted(count as u64, beta)
+    })
+}
+
+/// The Rust's number of taps of a half-band.
+pub fn halfband_length(transition: f64, attenuation: f64, rate: f64) -> Report {
+    counted(halfband_len(transition, attenuation, rate))
+}
+
+/// The scope document's delay.
+pub fn delay(taps: u64) -> Report {
+    match taps {
+        0 => Report::plain(6),
+        _ => Report::accepted((taps - 1) / 2, 0.0),
+    }
+}

@@ -1,0 +1,101 @@
+//! A few answers of the unchanged Rust files that the scope document gives, to show that they run.
+
+use sdrk_blocks::access::Lowpass;
+use sdrk_blocks::design::{DesignWindow, halfband_len, kaiserord, rrc_len};
+use sdrk_core::kernels::channelize::{MAX_CHANNELS, MIN_CHANNELS};
+use sdrk_core::num::q14_from_f64;
+use sdrk_core::window::bessel_i0;
+
+use crate::run::designers::rust;
+use crate::run::tickets::{Band, Channels, Pulse, Source, Spec, Ticket};
+
+/// Prints one line; true if every answer is the one expected.
+pub fn run() -> bool {
+    let one_tap = Lowpass::new(0.25, 1.0, DesignWindow::Hann, 1);
+    let spec = |rate| Spec {
+        cutoff: 1000.0,
+        transition: 100.0,
+        attenuation: 60.0,
+        rate,
+        max_taps: 292,
+    };
+    let spec = |rate| rust(&Ticket::SpecNumTaps { spec: spec(rate) }).report;
+    let hann = |cutoff, taps| {
+        let band = Band {
+            cutoff,
+            rate: 1.0,
+            window: 0,
+            beta: 0.0,
+        };
+        rust(&Ticket::LowpassNew { band, taps }).report
+    };
+    let channels = Channels {
+        channels: 16,
+        passband: 0.5,
+        stopband: 1.0,
+        attenuation: 60.0,
+    };
+    let twelve = Channels {
+        channels: 12,
+        ..channels
+    };
+    let pulse = Pulse {
+        bt: 0.5,
+        samples: 8,
+        span: 4,
+    };
+    let q15 = |tap| rust(&Ticket::Q15Tap { tap }).report;
+    let source = Source {
+        elements: vec![1.0, -1.0, 1.01],
+        rest: 0,
+        shift: 0,
+    };
+    let converted = rust(&Ticket::ToQ15 { source, bytes: 6 });
+    let rrc = |samples, span| rust(&Ticket::RrcLen { samples, span }).report;
+    let q14 = |x| rust(&Ticket::Q14FromF64 { x }).report;
+    let half = 1.0 / 32768.0;
+    let answers = [
+        bessel_i0(0.0) == 1.0,
+        kaiserord(8.0, 1.0, 1.0) == Ok((3, 0.0)),
+        kaiserord(60.0, -100.0, -8000.0).is_ok_and(|(n, _)| n == 293),
+        halfband_len(-100.0, 60.0, -8000.0) == Ok(295),
+        rrc_len(2, 4) == Ok(9),
+        rrc_len(1024, 32) == Ok(32769),
+        rrc_len(1, 4).is_err(),
+        one_tap.is_ok_and(|lowpass| lowpass.tap(0) == 1.0 && lowpass.divisor() == 0.5),
+        Lowpass::new(0.25, 1.0, DesignWindow::Hann, 2).is_err(),
+        (MIN_CHANNELS, MAX_CHANNELS) == (4, 256),
+        rust(&Ticket::BesselI0 { x: 0.0 }).report.count == 1,
+        (spec(8000.0).number, spec(8000.0).expected) == (9, 293),
+        spec(-8000.0).number == 1,
+        hann(0.25, 2).number == 10,
+        hann(0.5, 2).number == 2,
+        rust(&Ticket::HalfbandNew { beta: 8.0, taps: 5 })
+            .report
+            .number
+            == 6,
+        rust(&Ticket::GaussianNew { pulse }).report.count == 33,
+        rust(&Ticket::ChannelizerTaps { channels }).report.count == 118,
+        rust(&Ticket::ChannelizerTapsPerBranch { channels })
+            .report
+            .count
+            == 8,
+        rust(&Ticket::ChannelizerTaps { channels: twelve })
+            .report
+            .number
+            == 6,
+        [q15(1.0).value, q15(-1.0).value] == [32767.0, -32768.0],
+        [q15(1.0 / 65536.0).value, q15(-1.0 / 65536.0).value] == [1.0, 0.0],
+        [q15(1.01).number, q15(f64::NAN).number] == [11, 11],
+        converted.report.index == 2 && converted.fixed == [32767, -32768],
+        [rrc(2, 4).count, rrc(1024, 32).count] == [9, 32769],
+        (rrc(1, 4).number, rrc(1, 4).largest) == (6, 1024.0),
+        q14_from_f64(-2.0 - half) == Some(-32768),
+        q14_from_f64(2.0 - half).is_none(),
+        q14(-2.0 - half).value == -32768.0,
+        (q14(2.0 - half).number, q14(2.0 - half).largest) == (11, 2.0 - 2.0 * half),
+    ];
+    let right = answers.iter().filter(|&&answer| answer).count();
+    println!("the Rust files: {right} of {} known answers", answers.len());
+    right == answers.len()
+}
