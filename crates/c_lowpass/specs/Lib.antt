@@ -3,4 +3,3 @@ pub mod Lowpass
 pub mod Spec
 pub mod Prototype
 pub mod Sources
-pub mod FitsLaws

@@ -1,4 +1,2 @@
 pub mod Codes
 pub mod Samples
-pub mod RoomLaws
-pub mod WriteLaws

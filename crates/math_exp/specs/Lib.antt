@@ -1,4 +1,3 @@
 pub mod Exp
 pub mod ExpLaws
 pub mod Pow04
-pub mod Pow04Laws

@@ -1,8 +1,5 @@
 pub mod Whole
 pub mod Laws
 pub mod OneFloor
-pub mod Signs
 pub mod Near
 pub mod NearPaths
-pub mod FloorPaths
-pub mod AbsPaths

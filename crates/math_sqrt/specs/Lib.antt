@@ -3,7 +3,6 @@ pub mod WholeRoot
 pub mod Digits
 pub mod Middles
 pub mod Patterns
-pub mod NoNan
 pub mod Rounded
 pub mod Square
 pub mod Settled
@@ -11,4 +10,3 @@ pub mod Nearest
 pub mod Scaling
 pub mod Worked
 pub mod Laws
-pub mod Branches

@@ -1,4 +1,3 @@
 pub mod Trig
 pub mod Laws
-pub mod Modulo
 pub mod Opposite

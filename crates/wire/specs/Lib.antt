@@ -1,6 +1,5 @@
 pub mod Bytes
 pub mod Laws
-pub mod Signed
 pub mod Read
 pub mod Writes
 pub mod WritesLaws

@@ -2,7 +2,7 @@
 use lib.Ieee.{ofBits, neg}
 use borrow.Author.Needs.{needs}
 use Rattle.laws.specs.Tests.{holds}
-use Rattle.math_numbers.specs.Counts.{count-above, count-below}
+use Rattle.math_numbers.proofs.Counts.{count-above, count-below}
 use Rattle.math_numbers.proofs.to_count.Statement.{statement}
 use Rattle.math_numbers.proofs.to_count.Tie as tie
 

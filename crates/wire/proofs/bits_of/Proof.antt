@@ -3,7 +3,7 @@ use Prim.Native.Nat.{ℕ, _+_, _^_, _<_}
 use native.Mathlib.Nat.{lt-of-lt-of-le}
 use lib.Dec.{lit≤}
 use native.Mathlib.Omega.{arith}
-use Rattle.wire.specs.Signed.{moved-is, back-is}
+use Rattle.wire.proofs.Signed.{moved-is, back-is}
 use Rattle.wire.proofs.bits_of.Statement.{statement}
 use Rattle.wire.proofs.bits_of.Tie as tie
 

@@ -9,7 +9,7 @@ use Rattle.fir_lowpass.specs.Lowpass.{lowpassOf, outcomeOf}
 use Rattle.c_lowpass.specs.Lowpass.{lowpassBytes}
 use Rattle.fir_lowpass.specs.LowpassLaws.{lowpass-count}
 use Rattle.wire.specs.WritesLaws.{room, leaves, writes-same, leaves-part, writes-whole}
-use Rattle.c_lowpass.specs.FitsLaws.{fits-lowpass}
+use Rattle.c_lowpass.proofs.FitsLaws.{fits-lowpass}
 use Rattle.c_lowpass.specs.declared.codes.Coded.{Coded}
 use Rattle.c_lowpass.proofs.lowpass.pel_lowpass.Statement.{statement}
 use Rattle.c_lowpass.proofs.lowpass.pel_lowpass.Tie as tie

@@ -8,7 +8,7 @@ use Rattle.fir_lowpass.specs.declared.lowpass.Designed.{Designed}
 use Rattle.fir_channelizer.specs.Channelizer.{channelizerLowpassOf, fittedOf}
 use Rattle.fir_channelizer.specs.ChannelizerLaws.{channelizer-count}
 use Rattle.wire.specs.WritesLaws.{room, leaves-part, writes-whole}
-use Rattle.c_lowpass.specs.FitsLaws.{fits-lowpass}
+use Rattle.c_lowpass.proofs.FitsLaws.{fits-lowpass}
 use borrow.Author.Needs.{needs}
 use Rattle.c_lowpass.proofs.prototype.pel_channelizer_prototype.Statement.{statement}
 use Rattle.c_lowpass.proofs.prototype.pel_channelizer_prototype.Tie as tie

@@ -8,7 +8,7 @@ use Rattle.fir_spec.specs.Spec.{specDesignOf}
 use Rattle.c_lowpass.specs.Spec.{specOf}
 use Rattle.fir_spec.specs.SpecLaws.{spec-count}
 use Rattle.wire.specs.WritesLaws.{room, leaves-part, writes-whole}
-use Rattle.c_lowpass.specs.FitsLaws.{fits-lowpass}
+use Rattle.c_lowpass.proofs.FitsLaws.{fits-lowpass}
 use borrow.Author.Needs.{needs}
 use Rattle.c_lowpass.proofs.spec.pel_spec_design.Statement.{statement}
 use Rattle.c_lowpass.proofs.spec.pel_spec_design.Tie as tie

@@ -6,7 +6,7 @@ use Rattle.verdict.specs.Outcome.{Outcome}
 use Rattle.fir_halfband.specs.Halfband.{halfbandOf, outcomeOf}
 use Rattle.wire.specs.WritesLaws.{room, leaves-part, writes-whole}
 use Rattle.fir_halfband.specs.HalfbandLaws.{halfband-count}
-use Rattle.c_pulses.specs.FitsLaws.{fits-halfband}
+use Rattle.c_pulses.proofs.FitsLaws.{fits-halfband}
 use borrow.Author.Needs.{needs}
 use Rattle.c_pulses.proofs.halfbands.pel_halfband.Statement.{statement}
 use Rattle.c_pulses.proofs.halfbands.pel_halfband.Tie as tie

@@ -7,7 +7,7 @@ use Rattle.fir_gaussian.specs.Gaussian.{gaussianOf, fittedOf, outcomeOf}
 use Rattle.fir_gaussian.specs.declared.gaussian_design.GaussianDesigned.{GaussianDesigned}
 use Rattle.wire.specs.WritesLaws.{room, leaves-part, writes-whole}
 use Rattle.fir_gaussian.specs.GaussianLaws.{gaussian-count}
-use Rattle.c_pulses.specs.FitsLaws.{fits-gaussian}
+use Rattle.c_pulses.proofs.FitsLaws.{fits-gaussian}
 use borrow.Author.Needs.{needs}
 use Rattle.c_pulses.proofs.pulse.pel_gaussian.Statement.{statement}
 use Rattle.c_pulses.proofs.pulse.pel_gaussian.Tie as tie

@@ -11,7 +11,7 @@ use Rattle.laws.specs.Filled.{tabulate, length-tabulate}
 use Rattle.iir_butterworth.specs.Butterworth.{coefAt}
 use Rattle.iir_butterworth.specs.SectionLaws.{Right, right, turned}
 use Rattle.wire.specs.WritesLaws.{leaves}
-use Rattle.c_sections.specs.Laws.{listed, writes-listed}
+use Rattle.c_sections.proofs.Laws.{listed, writes-listed}
 use Rattle.c_sections.proofs.cascade.write_cascade.Statement.{statement}
 use Rattle.c_sections.proofs.cascade.write_cascade.Tie as tie
 

@@ -9,7 +9,7 @@ use Rattle.iir_biquad.specs.declared.biquad.Response.{Response}
 use Rattle.iir_biquad.specs.declared.biquad.Biquad.{Biquad}
 use Rattle.wire.specs.WritesLaws.{leaves, writes-same}
 use Rattle.c_sections.specs.Numbers.{numbersOf, biquadBytes}
-use Rattle.c_sections.specs.Laws.{leaves-other, writes-exact}
+use Rattle.c_sections.proofs.Laws.{leaves-other, writes-exact}
 use Rattle.c_sections.specs.declared.codes.Coded.{Coded}
 use Rattle.c_sections.proofs.section.pel_biquad_coefs.Statement.{statement}
 use Rattle.c_sections.proofs.section.pel_biquad_coefs.Tie as tie

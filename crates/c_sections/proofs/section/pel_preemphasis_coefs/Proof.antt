@@ -7,7 +7,7 @@ use Rattle.verdict.specs.Outcome.{Outcome}
 use Rattle.iir_biquad.specs.Preemphasis.{preemphasisOf}
 use Rattle.iir_biquad.specs.declared.preemphasis.Preemphasis.{Preemphasis}
 use Rattle.c_sections.specs.Numbers.{numbersOf}
-use Rattle.c_sections.specs.Laws.{leaves-other, writes-exact}
+use Rattle.c_sections.proofs.Laws.{leaves-other, writes-exact}
 use Rattle.c_sections.proofs.section.pel_preemphasis_coefs.Statement.{statement}
 use Rattle.c_sections.proofs.section.pel_preemphasis_coefs.Tie as tie
 

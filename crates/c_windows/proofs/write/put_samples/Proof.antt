@@ -14,7 +14,7 @@ use Rattle.wire.specs.WrittenPrefix.{WrittenPrefix, at-first, one-more, at-end}
 use Rattle.laws.specs.Chunks.{chunks}
 use Rattle.c_windows.specs.declared.sample.Sample.{Sample}
 use Rattle.c_windows.specs.Samples.{widthOf, patternOf, sampleBytes}
-use Rattle.c_windows.specs.RoomLaws.{some-width, half, room, full}
+use Rattle.c_windows.proofs.RoomLaws.{some-width, half, room, full}
 use Rattle.c_windows.proofs.write.put_samples.Statement.{statement}
 use Rattle.c_windows.proofs.write.put_samples.Tie as tie
 

@@ -7,8 +7,8 @@ use lib.ListN.{length}
 use lib.Ieee.{ofInt, ofBits}
 use Rattle.c_windows.specs.declared.codes.Coded.the-variants.{Known}
 use Rattle.c_windows.specs.Codes.{symmetryOf}
-use Rattle.c_windows.specs.RoomLaws.{some-width}
-use Rattle.c_windows.specs.WriteLaws.{unknown-code, part-left, shape-refused, window-written}
+use Rattle.c_windows.proofs.RoomLaws.{some-width}
+use Rattle.c_windows.proofs.WriteLaws.{unknown-code, part-left, shape-refused, window-written}
 use Rattle.c_windows.proofs.write.write_window.Statement.{statement}
 use Rattle.c_windows.proofs.write.write_window.Tie as tie
 

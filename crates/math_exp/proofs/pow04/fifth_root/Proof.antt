@@ -7,7 +7,7 @@ use borrow.Author.Tests.{not-true, not-false}
 use lib.Ieee.{ofInt, ofBits}
 use Rattle.laws.specs.Binary64.{whole}
 use Rattle.math_exp.specs.Pow04.{step, steps}
-use Rattle.math_exp.specs.Pow04Laws.{none-left, not-smaller, smaller}
+use Rattle.math_exp.proofs.Pow04Laws.{none-left, not-smaller, smaller}
 use Rattle.math_exp.proofs.pow04.fifth_root.Statement.{statement}
 use Rattle.math_exp.proofs.pow04.fifth_root.Tie as tie
 

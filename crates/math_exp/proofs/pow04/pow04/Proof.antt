@@ -3,7 +3,7 @@ use mathlib.Core.Path.{_∙_}
 use borrow.Author.Needs.{needs}
 use lib.Ieee.{ofInt, ofBits, div}
 use Rattle.laws.specs.Cases.{either}
-use Rattle.math_exp.specs.Pow04Laws.{at-zero, inside, outside}
+use Rattle.math_exp.proofs.Pow04Laws.{at-zero, inside, outside}
 use Rattle.math_exp.proofs.pow04.pow04.Statement.{statement}
 use Rattle.math_exp.proofs.pow04.pow04.Tie as tie
 

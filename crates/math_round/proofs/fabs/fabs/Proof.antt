@@ -2,7 +2,7 @@
 use mathlib.Core.Path.{sym, subst}
 use lib.Dec.{T}
 use lib.Ieee.{binary64, fits}
-use Rattle.math_round.specs.AbsPaths.{at-nan, is-number, made, without-sign}
+use Rattle.math_round.proofs.AbsPaths.{at-nan, is-number, made, without-sign}
 use Rattle.math_round.proofs.fabs.fabs.Statement.{statement}
 use Rattle.math_round.proofs.fabs.fabs.Tie as tie
 

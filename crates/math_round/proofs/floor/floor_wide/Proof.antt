@@ -6,7 +6,7 @@ use lib.Dec.{T}
 use lib.IntN.{pos}
 use lib.Ieee.{Float, binary64, fits, lt, ofBits, neg, ofInt, toUnsigned}
 use borrow.Author.Needs.{needs}
-use Rattle.math_round.specs.FloorPaths.{pos-small, pos-large, neg-frac, neg-whole, neg-large, at-zero, asked-pos, asked-neg, next-fits}
+use Rattle.math_round.proofs.FloorPaths.{pos-small, pos-large, neg-frac, neg-whole, neg-large, at-zero, asked-pos, asked-neg, next-fits}
 use Rattle.math_round.proofs.floor.floor_wide.Statement.{statement}
 use Rattle.math_round.proofs.floor.floor_wide.Tie as tie
 

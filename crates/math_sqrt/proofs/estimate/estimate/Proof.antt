@@ -3,7 +3,7 @@ use mathlib.Core.Logic.{⊎-elim}
 use Prim.Native.Nat.{_+_, _*_, _^_}
 use native.Mathlib.Omega.{arith}
 use borrow.Author.Needs.{needs}
-use Rattle.math_sqrt.specs.NoNan.{finite-bits, below-no-nan}
+use Rattle.math_sqrt.proofs.NoNan.{finite-bits, below-no-nan}
 use Rattle.math_sqrt.proofs.estimate.estimate.Statement.{statement}
 use Rattle.math_sqrt.proofs.estimate.estimate.Tie as tie
 

@@ -8,9 +8,9 @@ use lib.Dec.{T, leb}
 use lib.Ieee.{inf, binary64, fits, ofBits, toBits, div, lt}
 use Rattle.laws.specs.Tests.{both}
 use Rattle.laws.specs.Units.{nought}
-use Rattle.math_sqrt.specs.NoNan.{finite-bits, below-no-nan}
+use Rattle.math_sqrt.proofs.NoNan.{finite-bits, below-no-nan}
 use Rattle.math_sqrt.specs.Nearest.{pattern-lt}
-use Rattle.math_sqrt.specs.Branches.{asked, at-positive}
+use Rattle.math_sqrt.proofs.Branches.{asked, at-positive}
 use Rattle.math_sqrt.proofs.pair.sqrt_pair.Statement.{statement}
 use Rattle.math_sqrt.proofs.pair.sqrt_pair.Tie as tie
 

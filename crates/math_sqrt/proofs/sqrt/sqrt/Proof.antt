@@ -4,9 +4,9 @@ use Prim.Native.Nat.{_/_, _%_, _^_}
 use lib.Dec.{T}
 use lib.Ieee.{binary64, fits, ofBits, toBits, div}
 use Rattle.math_sqrt.specs.Patterns.{magOf}
-use Rattle.math_sqrt.specs.NoNan.{finite-bits, below-no-nan}
+use Rattle.math_sqrt.proofs.NoNan.{finite-bits, below-no-nan}
 use Rattle.math_sqrt.specs.Nearest.{pattern-lt}
-use Rattle.math_sqrt.specs.Branches.{asked, at-positive, at-top, at-zero, below-zero}
+use Rattle.math_sqrt.proofs.Branches.{asked, at-positive, at-top, at-zero, below-zero}
 use Rattle.math_sqrt.proofs.sqrt.sqrt.Statement.{statement}
 use Rattle.math_sqrt.proofs.sqrt.sqrt.Tie as tie
 

@@ -5,7 +5,7 @@ use native.Mathlib.Omega.{arith}
 use borrow.Author.Needs.{needs}
 use lib.ListN.{length}
 use Rattle.fmt_f32.specs.Single.{singleOf}
-use Rattle.win_sampled.specs.FillLaws.{Filling, fill-start, same-size, fill-next, fill-done, fill-refused}
+use Rattle.win_sampled.proofs.FillLaws.{Filling, fill-start, same-size, fill-next, fill-done, fill-refused}
 use Rattle.win_sampled.proofs.fill.fill_f32.Statement.{statement}
 use Rattle.win_sampled.proofs.fill.fill_f32.Tie as tie
 

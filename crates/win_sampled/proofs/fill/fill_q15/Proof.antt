@@ -7,7 +7,7 @@ use mir.Syntax.{w16}
 use mir.ValLaws.{toZ-ofZ}
 use lib.ListN.{length}
 use Rattle.fmt_q15.specs.Q15.{q15Of}
-use Rattle.win_sampled.specs.FillLaws.{Filling, fill-start, same-size, fill-next, fill-done, fill-refused}
+use Rattle.win_sampled.proofs.FillLaws.{Filling, fill-start, same-size, fill-next, fill-done, fill-refused}
 use Rattle.win_sampled.proofs.fill.fill_q15.Statement.{statement}
 use Rattle.win_sampled.proofs.fill.fill_q15.Tie as tie
 

@@ -17,7 +17,7 @@ use Rattle.laws.specs.Units.{nought}
 use Rattle.laws.specs.Floor.{upward, floorZ}
 use Rattle.math_round.specs.Whole.{asFloat, floorOf}
 use Rattle.math_round.specs.Laws.{abs-neg, neg-round, floor-whole}
-use Rattle.math_round.specs.Signs.{never-below, not-above, not-below}
+use Rattle.math_round.proofs.Signs.{never-below, not-above, not-below}
 
 -- 2 ^ 52 and its negation, the bounds that the code tests
 abbrev pub far : Float
