@@ -6,6 +6,7 @@ use lib.Dec.{eqb}
 use lib.ListN.{length}
 use lib.Ieee.{Float}
 use Rattle.laws.specs.Binary64.{whole}
+use Rattle.verdict.specs.Numbers.{badLength}
 use Rattle.wire.specs.Bytes.{singlesIn}
 use Rattle.win_gain.specs.Gain.{gainOf}
 use Rattle.c_gain.specs.declared.level.GainReport.{GainReport}
@@ -21,4 +22,4 @@ gainReport s =
     let g = gainOf (singles s) in
     cond (eqb (m % 4) 0)
     (record { number = 0; carries = 0; expected = 0; given = 0; count = m / 4; gain = g .gain; bandwidth = g .bandwidth })
-    (record { number = 8; carries = 2; expected = m - m % 4; given = m; count = 0; gain = whole 0; bandwidth = whole 0 })
+    (record { number = badLength; carries = 2; expected = m - m % 4; given = m; count = 0; gain = whole 0; bandwidth = whole 0 })

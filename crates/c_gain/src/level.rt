@@ -80,7 +80,7 @@ pub extern "C" fn pel_window_gain(src: &[u8]) -> GainReport
     let len = src.len() as u64;
     if len % 4 != 0 {
         return GainReport {
-            number: 8,
+            number: verdict::BAD_LENGTH,
             carries: 2,
             expected: len - len % 4,
             given: len,

@@ -1,6 +1,7 @@
 -- The low-pass with its window by a code, for a number of taps and for a buffer of bytes. Definitions only.
 use Prim.Native.Nat.{ℕ, _/_}
 use lib.Ieee.{Float}
+use Rattle.verdict.specs.Numbers.{badCode}
 use Rattle.verdict.specs.declared.Refusal.the-variants.{Plain}
 use Rattle.fir_lowpass.specs.declared.lowpass.Designed.{Designed}
 use Rattle.fir_lowpass.specs.declared.lowpass.Designed.the-variants.{Refused}
@@ -13,9 +14,9 @@ use Rattle.wire.specs.Writes.{wholeTaps}
 
 abbrev pub lowpassCoded : Float → Float → Coded → ℕ → Designed
 lowpassCoded cutoff rate (Known w) n = lowpassOf cutoff rate w n
-lowpassCoded cutoff rate Unknown n = Refused (Plain 7)
+lowpassCoded cutoff rate Unknown n = Refused (Plain badCode)
 
 -- eight bytes a tap
 abbrev pub lowpassBytes : Float → Float → Coded → ℕ → Outcome
 lowpassBytes cutoff rate (Known w) len = wholeTaps len (outcomeOf (lowpassOf cutoff rate w (len / 8)))
-lowpassBytes cutoff rate Unknown len = Outcome.Refused (Plain 7)
+lowpassBytes cutoff rate Unknown len = Outcome.Refused (Plain badCode)

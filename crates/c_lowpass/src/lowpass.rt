@@ -5,6 +5,7 @@ use super::told::told_lowpass;
 use super::write::write_lowpass;
 use fir_cache::CACHED;
 use fir_lowpass::lowpass::Lowpass;
+use verdict::BAD_CODE;
 use verdict::Refusal;
 use verdict::Report;
 ghost use mathlib.Core.Path.{_≡_};
@@ -31,7 +32,7 @@ pub extern "C" fn pel_lowpass_new(
     let coded = window_of(window, beta);
     match coded {
         Coded::Known(w) => told_lowpass(Lowpass::new(cutoff, rate, w, taps)),
-        Coded::Unknown => verdict::refused(Refusal::Plain(7)),
+        Coded::Unknown => verdict::refused(Refusal::Plain(BAD_CODE)),
     }
 }
 
@@ -57,6 +58,6 @@ pub extern "C" fn pel_lowpass(
             let p = fir_lowpass::lowpass::prepare(cutoff, rate, w, len / 8, &mut raws);
             write_lowpass(p, &raws, &mut *out)
         }
-        Coded::Unknown => verdict::refused(Refusal::Plain(7)),
+        Coded::Unknown => verdict::refused(Refusal::Plain(BAD_CODE)),
     }
 }

@@ -6,6 +6,7 @@ use lib.Dec.{eqb}
 use lib.ListN.{length, getD}
 use lib.Ieee.{Float, nan}
 use Rattle.laws.specs.Binary64.{whole}
+use Rattle.verdict.specs.Numbers.{badCode}
 use Rattle.verdict.specs.declared.Refusal.the-variants.{Plain, Length}
 use Rattle.verdict.specs.Outcome.{Outcome}
 use Rattle.verdict.specs.Outcome as Outcome
@@ -26,7 +27,7 @@ numbersOf (Refused why) xs = Outcome.Refused why
 -- five numbers, 40 bytes; an unknown response is refused first, then another length
 abbrev pub biquadBytes : Coded → Float → Float → Float → ℕ → Outcome
 biquadBytes (Known r) centre q rate len = let b = biquadOf r centre q rate in cond (eqb len 40) (numbersOf (b .verdict) (b .coefs)) (Outcome.Refused (Length 40 len))
-biquadBytes Unknown centre q rate len = Outcome.Refused (Plain 7)
+biquadBytes Unknown centre q rate len = Outcome.Refused (Plain badCode)
 
 -- three numbers, 24 bytes
 abbrev pub preemphasisBytes : Float → Float → ℕ → Outcome
@@ -35,4 +36,4 @@ preemphasisBytes tau rate len = let p = preemphasisOf tau rate in cond (eqb len 
 -- a response that is known but wrong is told after the bytes, as the filter's own first refusal
 abbrev pub butterworthBytes : Coded → ℕ → Float → Float → ℕ → Outcome
 butterworthBytes (Known r) order cutoff rate len = wholeTaps len (butterworthOf r order cutoff rate (len / 8))
-butterworthBytes Unknown order cutoff rate len = Outcome.Refused (Plain 7)
+butterworthBytes Unknown order cutoff rate len = Outcome.Refused (Plain badCode)

@@ -3,6 +3,7 @@ use super::codes::Coded;
 use super::codes::response_of;
 use super::write::write_numbers;
 use iir_biquad::biquad::Response;
+use verdict::BAD_CODE;
 use verdict::Refusal;
 use verdict::Report;
 use verdict::Verdict;
@@ -53,6 +54,6 @@ pub extern "C" fn pel_butterworth_sos(
             }
             write_cascade(known, order, cutoff, rate, &mut *out)
         }
-        Coded::Unknown => verdict::refused(Refusal::Plain(7)),
+        Coded::Unknown => verdict::refused(Refusal::Plain(BAD_CODE)),
     }
 }

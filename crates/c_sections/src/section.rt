@@ -4,6 +4,7 @@ use super::codes::response_of;
 use super::write::write_numbers;
 use iir_biquad::biquad::biquad_coefs;
 use iir_biquad::preemphasis::preemphasis_coefs;
+use verdict::BAD_CODE;
 use verdict::Refusal;
 use verdict::Report;
 ghost use lib.ListN.{length};
@@ -36,7 +37,7 @@ pub extern "C" fn pel_biquad_coefs(
             let verdict = b.verdict;
             write_numbers(verdict, &coefs, &mut *out)
         }
-        Coded::Unknown => verdict::refused(Refusal::Plain(7)),
+        Coded::Unknown => verdict::refused(Refusal::Plain(BAD_CODE)),
     }
 }
 

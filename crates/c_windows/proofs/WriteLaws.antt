@@ -8,6 +8,7 @@ use lib.ListN.{length}
 use lib.Ieee.{Float}
 use Rattle.laws.specs.Binary64.{whole}
 use Rattle.laws.specs.Chunks.{chunks}
+use Rattle.verdict.specs.Numbers.{badAttenuation, badCode}
 use Rattle.verdict.specs.declared.Refusal.the-variants.{Plain, Length}
 use Rattle.verdict.specs.declared.Report.{Report}
 use Rattle.verdict.specs.Report.{reportOf, acceptedOf}
@@ -26,7 +27,7 @@ abbrev WritesWindow : Sample → Shape → Coded → List ℕ → Report → Lis
 WritesWindow s shape coded before r after = Writes (sampleBytes s) (windowBytes s shape coded (length before)) before r after
 
 module _ (s : Sample) (shape : Shape) {coded : Coded} {before : List ℕ} {r : Report} where
-  pub unknown-code : coded ≡ Unknown → r ≡ reportOf (Plain 7) → WritesWindow s shape coded before r before
+  pub unknown-code : coded ≡ Unknown → r ≡ reportOf (Plain badCode) → WritesWindow s shape coded before r before
   unknown-code e told = leaves (rw e) told
 
   -- w the width of a sample
@@ -35,7 +36,7 @@ module _ (s : Sample) (shape : Shape) {coded : Coded} {before : List ℕ} {r : R
     part-left part told = leaves (rw (known, ← e, ne-eqb (length before % w) 0 part)) told
 
     module _ (all : length before % w ≡ 0) {taken : Bool} (test : taken ≡ shapeTaken shape) where
-      pub shape-refused : not taken ≡ true → r ≡ reportOf (Plain 4) → WritesWindow s shape coded before r before
+      pub shape-refused : not taken ≡ true → r ≡ reportOf (Plain badAttenuation) → WritesWindow s shape coded before r before
       shape-refused t told = leaves (rw (known, ← e, eq-eqb (length before % w) 0 all, ← test, not-true taken t)) told
 
       -- i0 and d are the definition's

@@ -6,6 +6,7 @@ use lib.Ieee.{Float, binary32, toBits}
 use Rattle.laws.specs.Binary64.{whole}
 use Rattle.wire.specs.Bytes.{bytesOf, twosOf}
 use Rattle.wire.specs.Writes.{wholeElements}
+use Rattle.verdict.specs.Numbers.{badAttenuation, badCode}
 use Rattle.verdict.specs.declared.Refusal.the-variants.{Plain}
 use Rattle.verdict.specs.Outcome.{Outcome}
 use Rattle.verdict.specs.Outcome as Outcome
@@ -38,5 +39,5 @@ windowBytes s shape (Known symmetry) len =
     wholeElements (widthOf s) len
     (cond (shapeTaken shape)
     (Outcome.Designed n (whole 0) (windowAt shape symmetry n))
-    (Outcome.Refused (Plain 4)))
-windowBytes s shape Unknown len = Outcome.Refused (Plain 7)
+    (Outcome.Refused (Plain badAttenuation)))
+windowBytes s shape Unknown len = Outcome.Refused (Plain badCode)

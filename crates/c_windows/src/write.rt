@@ -4,6 +4,8 @@ use super::codes::symmetry_of;
 use super::sample::Sample;
 use super::sample::store;
 use super::sample::width;
+use verdict::BAD_ATTENUATION;
+use verdict::BAD_CODE;
 use verdict::Refusal;
 use verdict::Report;
 use win_sampled::shape::Shape;
@@ -65,12 +67,12 @@ pub(crate) fn write_window(shape: Shape, code: u64, sample: Sample, out: &mut [u
                 return verdict::refused(Refusal::Length(len - len % wide, len));
             }
             if !takes_shape(shape) {
-                return verdict::refused(Refusal::Plain(4));
+                return verdict::refused(Refusal::Plain(BAD_ATTENUATION));
             }
             let n = len / wide;
             put_samples(shape, norm(shape), divisor(symmetry, n), sample, &mut *out);
             verdict::accepted(n, 0.0)
         }
-        Coded::Unknown => verdict::refused(Refusal::Plain(7)),
+        Coded::Unknown => verdict::refused(Refusal::Plain(BAD_CODE)),
     }
 }

@@ -10,6 +10,7 @@ use Rattle.laws.specs.Binary64.{_⊕_, _⊖_, _⊗_, _⊘_, whole, fraction}
 use Rattle.laws.specs.Floor.{upward}
 use Rattle.math_numbers.specs.Numbers.{positive}
 use Rattle.math_round.specs.Whole.{ceilOf}
+use Rattle.verdict.specs.Numbers.{badFrequency, badTransition, badAttenuation, badCount}
 use Rattle.verdict.specs.declared.Refusal.the-variants as Refusal
 use Rattle.fir_length.specs.Kaiser.{betaOf, estimate}
 use Rattle.verdict.specs.declared.Length.{Length}
@@ -42,9 +43,9 @@ edgesOf passband stopband a =
     (cond (stopTaken passband stopband)
     (cond (attenuationTaken a)
     Verdict.Done
-    (Verdict.Refused (Refusal.Range 4 (whole 20) (whole 120) a)))
-    (Verdict.Refused (Refusal.Plain 2)))
-    (Verdict.Refused (Refusal.Plain 2))
+    (Verdict.Refused (Refusal.Range badAttenuation (whole 20) (whole 120) a)))
+    (Verdict.Refused (Refusal.Plain badFrequency)))
+    (Verdict.Refused (Refusal.Plain badFrequency))
 
 -- ---- the number of taps
 unfoldable pub countTaken : Float → Bool
@@ -52,7 +53,7 @@ countTaken num = finite num && le num (whole 16777216)
 
 -- for edges that were checked, by the estimate
 abbrev pub tapsIn : Verdict → Float → Length
-tapsIn Verdict.Done num = cond (countTaken num) (Length.Taps (toUnsigned 64 (ceilOf num))) (Length.Refused (Refusal.Plain 3))
+tapsIn Verdict.Done num = cond (countTaken num) (Length.Taps (toUnsigned 64 (ceilOf num))) (Length.Refused (Refusal.Plain badTransition))
 tapsIn (Verdict.Refused why) num = Length.Refused why
 
 unfoldable pub channelizerTapsOf : ℕ → Float → Float → Float → Length
@@ -60,7 +61,7 @@ unfolding channelsTaken edgesOf countTaken
 channelizerTapsOf m passband stopband a =
     cond (channelsTaken m)
     (tapsIn (edgesOf passband stopband a) (estimate a (whole 2 ⊗ (stopband ⊖ passband) ⊘ whole m)))
-    (Length.Refused (Refusal.Plain 6))
+    (Length.Refused (Refusal.Plain badCount))
 
 -- of a branch: taps / m, rounded up
 abbrev pub branchOf : ℕ → Length → Length
@@ -79,8 +80,8 @@ channelizerLowpassOf m l passband stopband a =
     cond (channelsTaken m)
     (cond (branchTaken l)
     (lowpassIn (edgesOf passband stopband a) (lowpassOf ((passband ⊕ stopband) ⊘ (whole 2 ⊗ whole m)) (whole 1) (Kaiser (betaOf a)) (m * l)))
-    (Designed.Refused (Refusal.Plain 6)))
-    (Designed.Refused (Refusal.Plain 6))
+    (Designed.Refused (Refusal.Plain badCount)))
+    (Designed.Refused (Refusal.Plain badCount))
 
 -- for a buffer of len elements, tested last
 abbrev pub fittedOf : Designed → ℕ → Designed

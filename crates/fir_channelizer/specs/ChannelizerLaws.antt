@@ -12,6 +12,7 @@ use lib.Ieee.{Float}
 use Rattle.laws.specs.Binary64.{_⊕_, _⊖_, _⊗_, _⊘_, whole}
 use Rattle.laws.specs.Floor.{upward}
 use Rattle.laws.specs.Tests.{both}
+use Rattle.verdict.specs.Numbers.{badCount}
 use Rattle.verdict.specs.declared.Refusal.{Refusal}
 use Rattle.verdict.specs.declared.Refusal.the-variants as Refusal
 use Rattle.fir_length.specs.Kaiser.{betaOf, estimate}
@@ -66,7 +67,7 @@ module _ (m : ℕ) (passband stopband a : Float) where
   unfolding channelizerTapsOf
   taps-by-edges b = rw b
 
-  pub taps-no-channels : channelsTaken m ≡ false → channelizerTapsOf m passband stopband a ≡ Length.Refused (Refusal.Plain 6)
+  pub taps-no-channels : channelsTaken m ≡ false → channelizerTapsOf m passband stopband a ≡ Length.Refused (Refusal.Plain badCount)
   unfolding channelizerTapsOf
   taps-no-channels b = rw b
 
@@ -75,7 +76,7 @@ module _ (m : ℕ) (passband stopband a : Float) where
   unfolding channelizerTapsOf
   taps-channels n e = go (channelsTaken m) e
     where
-      go : (b : Bool) → cond b (tapsIn (edgesOf passband stopband a) (estimate a (whole 2 ⊗ (stopband ⊖ passband) ⊘ whole m))) (Length.Refused (Refusal.Plain 6)) ≡ Length.Taps n → b ≡ true
+      go : (b : Bool) → cond b (tapsIn (edgesOf passband stopband a) (estimate a (whole 2 ⊗ (stopband ⊖ passband) ⊘ whole m))) (Length.Refused (Refusal.Plain badCount)) ≡ Length.Taps n → b ≡ true
       go true e = refl
       go false e = let z : _≡_ {A = ℕ} 0 1 = cc in absurd (omega arith)
 
@@ -89,11 +90,11 @@ module _ (m l : ℕ) (passband stopband a : Float) where
     unfolding channelizerLowpassOf
     by-edges c = rw (b, c)
 
-    pub no-branch : branchTaken l ≡ false → channelizerLowpassOf m l passband stopband a ≡ Designed.Refused (Refusal.Plain 6)
+    pub no-branch : branchTaken l ≡ false → channelizerLowpassOf m l passband stopband a ≡ Designed.Refused (Refusal.Plain badCount)
     unfolding channelizerLowpassOf
     no-branch c = rw (b, c)
 
-  pub no-channels : channelsTaken m ≡ false → channelizerLowpassOf m l passband stopband a ≡ Designed.Refused (Refusal.Plain 6)
+  pub no-channels : channelsTaken m ≡ false → channelizerLowpassOf m l passband stopband a ≡ Designed.Refused (Refusal.Plain badCount)
   unfolding channelizerLowpassOf
   no-channels b = rw b
 
@@ -134,11 +135,11 @@ pub accepted : (m l : ℕ) (passband stopband a : Float) (d : Lowpass) → chann
 unfolding channelizerLowpassOf
 accepted m l passband stopband a d e = go (channelsTaken m) (branchTaken l) (edgesOf passband stopband a) (prototypeOf m l passband stopband a) e
   where
-    go : (b c : Bool) (k : Verdict) (p : Designed) → cond b (cond c (lowpassIn k p) (Designed.Refused (Refusal.Plain 6))) (Designed.Refused (Refusal.Plain 6)) ≡ Designed.Ready d → p ≡ Designed.Ready d
+    go : (b c : Bool) (k : Verdict) (p : Designed) → cond b (cond c (lowpassIn k p) (Designed.Refused (Refusal.Plain badCount))) (Designed.Refused (Refusal.Plain badCount)) ≡ Designed.Ready d → p ≡ Designed.Ready d
     go true true Verdict.Done p e = e
     go true true (Verdict.Refused why) p e = absurd (never why d e)
-    go true false k p e = absurd (never (Refusal.Plain 6) d e)
-    go false c k p e = absurd (never (Refusal.Plain 6) d e)
+    go true false k p e = absurd (never (Refusal.Plain badCount) d e)
+    go false c k p e = absurd (never (Refusal.Plain badCount) d e)
 
 -- and one for a buffer: the design is accepted without the buffer too, and has as many taps as that has elements
 fitted-is : (g : Designed) (len : ℕ) (d : Lowpass) → fittedOf g len ≡ Designed.Ready d → (g ≡ Designed.Ready d) × (d .n ≡ len)

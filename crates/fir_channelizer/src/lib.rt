@@ -2,6 +2,10 @@
 use fir_lowpass::lowpass::Designed;
 use fir_lowpass::lowpass::Prepared;
 use fir_sinc::window::Window;
+use verdict::BAD_ATTENUATION;
+use verdict::BAD_COUNT;
+use verdict::BAD_FREQUENCY;
+use verdict::BAD_TRANSITION;
 use verdict::Length;
 use verdict::Refusal;
 use verdict::Verdict;
@@ -54,13 +58,13 @@ fn check_edges(passband: f64, stopband: f64, attenuation: f64) -> Verdict
     ensures { λ r. ⌜ r ≡ edgesOf passband stopband attenuation ⌝ }
 {
     if !math_numbers::is_positive(passband) {
-        return Verdict::Refused(Refusal::Plain(2));
+        return Verdict::Refused(Refusal::Plain(BAD_FREQUENCY));
     }
     if !takes_stopband(passband, stopband) {
-        return Verdict::Refused(Refusal::Plain(2));
+        return Verdict::Refused(Refusal::Plain(BAD_FREQUENCY));
     }
     if !takes_attenuation(attenuation) {
-        return Verdict::Refused(Refusal::Range(4, 20.0, 120.0, attenuation));
+        return Verdict::Refused(Refusal::Range(BAD_ATTENUATION, 20.0, 120.0, attenuation));
     }
     Verdict::Done
 }
@@ -77,7 +81,7 @@ pub fn channelizer_taps(channels: u64, passband: f64, stopband: f64, attenuation
     ensures { λ r. ⌜ r ≡ channelizerTapsOf channels passband stopband attenuation ⌝ }
 {
     if !takes_channels(channels) {
-        return Length::Refused(Refusal::Plain(6));
+        return Length::Refused(Refusal::Plain(BAD_COUNT));
     }
     let checked = check_edges(passband, stopband, attenuation);
     match checked {
@@ -87,7 +91,7 @@ pub fn channelizer_taps(channels: u64, passband: f64, stopband: f64, attenuation
             if takes_estimate(num) {
                 Length::Taps(math_numbers::to_count(math_round::ceil::ceil(num)))
             } else {
-                Length::Refused(Refusal::Plain(3))
+                Length::Refused(Refusal::Plain(BAD_TRANSITION))
             }
         }
         Verdict::Refused(why) => Length::Refused(why),
@@ -139,10 +143,10 @@ pub fn prepare(
     ensures { λ r. ⌜ Prepares (channelizerLowpassOf channels branch passband stopband attenuation) r (now (raws .exit)) ⌝ }
 {
     if !takes_channels(channels) {
-        return refused(Refusal::Plain(6));
+        return refused(Refusal::Plain(BAD_COUNT));
     }
     if !takes_branch(branch) {
-        return refused(Refusal::Plain(6));
+        return refused(Refusal::Plain(BAD_COUNT));
     }
     let checked = check_edges(passband, stopband, attenuation);
     match checked {

@@ -1,4 +1,5 @@
 // The delay of a linear-phase filter.
+use verdict::BAD_COUNT;
 use verdict::Refusal;
 ghost use mathlib.Core.Path.{_≡_};
 ghost use Rattle.fir_delay.specs.Delay.{delayOf};
@@ -14,7 +15,7 @@ pub fn delay(n: u64) -> Delayed
     ensures { λ r. ⌜ r ≡ delayOf n ⌝ }
 {
     if n == 0 {
-        return Delayed::Refused(Refusal::Plain(6));
+        return Delayed::Refused(Refusal::Plain(BAD_COUNT));
     }
     Delayed::Samples((n - 1) / 2)
 }

@@ -9,6 +9,7 @@ use lib.Ieee.{Float, binary64, le, neg}
 use Rattle.laws.specs.Binary64.{_⊖_, _⊗_, _⊘_, whole, fraction, pi, ln2}
 use Rattle.laws.specs.Sums.{sumTo}
 use Rattle.math_exp.specs.Exp.{expOf}
+use Rattle.verdict.specs.Numbers.{badShape, badCount}
 use Rattle.verdict.specs.declared.Refusal.the-variants.{Range, Length}
 use Rattle.fir_cache.specs.Cached.{KeepsOf}
 use Rattle.verdict.specs.Outcome.{Outcome}
@@ -48,9 +49,9 @@ gaussianOf bt sps span =
     (cond (spanTaken span)
     (cond (samplesTaken sps most)
     (Ready (madeOf bt sps (span * sps + 1)))
-    (Refused (Range 6 (whole 2) (whole most) (whole sps))))
-    (Refused (Range 6 (whole 2) (whole 8) (whole span))))
-    (Refused (Range 5 (fraction 2 10) (whole 1) bt))
+    (Refused (Range badCount (whole 2) (whole most) (whole sps))))
+    (Refused (Range badCount (whole 2) (whole 8) (whole span))))
+    (Refused (Range badShape (fraction 2 10) (whole 1) bt))
 
 -- for a buffer of len elements
 abbrev pub fittedOf : GaussianDesigned → ℕ → GaussianDesigned

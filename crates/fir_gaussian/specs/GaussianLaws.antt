@@ -12,6 +12,7 @@ use lib.Ieee.{Float, nan}
 use Rattle.laws.specs.Binary64.{_⊘_, whole, fraction}
 use Rattle.laws.specs.Tests.{both}
 use Rattle.fir_cache.specs.Cached.{Totals}
+use Rattle.verdict.specs.Numbers.{badShape, badCount}
 use Rattle.verdict.specs.declared.Refusal.{Refusal}
 use Rattle.verdict.specs.declared.Refusal.the-variants.{Range, Length}
 use Rattle.fir_gaussian.specs.Gaussian.{exponent, rawAt, btTaken, spanTaken, samplesTaken, madeOf, gaussianOf, fittedOf, tapOf, Keeps, Prepares, outcomeOf}
@@ -43,15 +44,15 @@ module _ (bt : Float) (sps span : ℕ) where
       unfolding gaussianOf
       ready c = rw (a, b, c)
 
-      pub no-samples : samplesTaken sps (16777215 / span) ≡ false → gaussianOf bt sps span ≡ Refused (Range 6 (whole 2) (whole (16777215 / span)) (whole sps))
+      pub no-samples : samplesTaken sps (16777215 / span) ≡ false → gaussianOf bt sps span ≡ Refused (Range badCount (whole 2) (whole (16777215 / span)) (whole sps))
       unfolding gaussianOf
       no-samples c = rw (a, b, c)
 
-    pub no-span : spanTaken span ≡ false → gaussianOf bt sps span ≡ Refused (Range 6 (whole 2) (whole 8) (whole span))
+    pub no-span : spanTaken span ≡ false → gaussianOf bt sps span ≡ Refused (Range badCount (whole 2) (whole 8) (whole span))
     unfolding gaussianOf
     no-span b = rw (a, b)
 
-  pub no-bt : btTaken bt ≡ false → gaussianOf bt sps span ≡ Refused (Range 5 (fraction 2 10) (whole 1) bt)
+  pub no-bt : btTaken bt ≡ false → gaussianOf bt sps span ≡ Refused (Range badShape (fraction 2 10) (whole 1) bt)
   unfolding gaussianOf
   no-bt a = rw a
 
@@ -73,12 +74,12 @@ accepted bt sps span g e = go (btTaken bt) (spanTaken span) (samplesTaken sps (1
     few k h = (omega arith, omega arith)
 
     go : (a b c : Bool) → (b ≡ true → c ≡ true → span * sps ≤ 16777215)
-        → cond a (cond b (cond c (Ready (madeOf bt sps (span * sps + 1))) (Refused (Range 6 (whole 2) (whole (16777215 / span)) (whole sps)))) (Refused (Range 6 (whole 2) (whole 8) (whole span)))) (Refused (Range 5 (fraction 2 10) (whole 1) bt)) ≡ Ready g
+        → cond a (cond b (cond c (Ready (madeOf bt sps (span * sps + 1))) (Refused (Range badCount (whole 2) (whole (16777215 / span)) (whole sps)))) (Refused (Range badCount (whole 2) (whole 8) (whole span)))) (Refused (Range badShape (fraction 2 10) (whole 1) bt)) ≡ Ready g
         → Accepted bt sps span g
     go true true true k e = let t = few (span * sps) (k refl refl) in record { is = cc; some = t .0; most = t .1 }
-    go true true false k e = absurd (never (Range 6 (whole 2) (whole (16777215 / span)) (whole sps)) g e)
-    go true false c k e = absurd (never (Range 6 (whole 2) (whole 8) (whole span)) g e)
-    go false b c k e = absurd (never (Range 5 (fraction 2 10) (whole 1) bt) g e)
+    go true true false k e = absurd (never (Range badCount (whole 2) (whole (16777215 / span)) (whole sps)) g e)
+    go true false c k e = absurd (never (Range badCount (whole 2) (whole 8) (whole span)) g e)
+    go false b c k e = absurd (never (Range badShape (fraction 2 10) (whole 1) bt) g e)
 
 -- and one for a buffer: the design is accepted without the buffer too, and has as many taps as that has elements
 pub fitted-is : (d : GaussianDesigned) (len : ℕ) (g : Gaussian) → fittedOf d len ≡ Ready g → (d ≡ Ready g) × (g .n ≡ len)

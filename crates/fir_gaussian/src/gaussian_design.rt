@@ -2,6 +2,8 @@
 use fir_cache::keep;
 use math_numbers::PI;
 use math_numbers::TAP_LIMIT;
+use verdict::BAD_COUNT;
+use verdict::BAD_SHAPE;
 use verdict::Refusal;
 ghost use mathlib.Core.Path.{_≡_};
 ghost use Prim.Native.Nat.{_^_, _<_, _≤_};
@@ -77,11 +79,11 @@ pub fn prepare(bt: f64, sps: u64, span: u64, raws: &mut [f64]) -> GaussianDesign
     ensures { λ r. ⌜ Prepares (gaussianOf bt sps span) r (now (raws .exit)) ⌝ }
 {
     if !takes_bt(bt) {
-        return GaussianDesigned::Refused(Refusal::Range(5, 0.2, 1.0, bt));
+        return GaussianDesigned::Refused(Refusal::Range(BAD_SHAPE, 0.2, 1.0, bt));
     }
     if !takes_span(span) {
         return GaussianDesigned::Refused(Refusal::Range(
-            6,
+            BAD_COUNT,
             2.0,
             8.0,
             std::num::nearest_u64_to_f64(span),
@@ -90,7 +92,7 @@ pub fn prepare(bt: f64, sps: u64, span: u64, raws: &mut [f64]) -> GaussianDesign
     let most = (TAP_LIMIT - 1) / span;
     if !takes_samples(sps, most) {
         return GaussianDesigned::Refused(Refusal::Range(
-            6,
+            BAD_COUNT,
             2.0,
             std::num::nearest_u64_to_f64(most),
             std::num::nearest_u64_to_f64(sps),

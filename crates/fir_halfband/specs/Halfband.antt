@@ -9,6 +9,7 @@ use lib.Dec.{eqb, ltb, leb}
 use lib.Ieee.{Float, binary64}
 use Rattle.laws.specs.Binary64.{_⊘_, whole, fraction}
 use Rattle.laws.specs.Sums.{sumTo}
+use Rattle.verdict.specs.Numbers.{badCount, badSum}
 use Rattle.verdict.specs.declared.Refusal.the-variants.{Plain}
 use Rattle.verdict.specs.Outcome.{Outcome}
 use Rattle.verdict.specs.Outcome as Outcome
@@ -59,12 +60,12 @@ divisorOf l n = sumTo binary64 (unscaled l n) n
 
 -- a ticket is accepted where the answer is `Ready`
 abbrev pub halfbandIn : ℕ → Designed → HalfbandDesigned
-halfbandIn n (Designed.Ready l) = cond (Lowpass.usable (divisorOf l n)) (Ready (record { lp = l; n = n; sum = divisorOf l n })) (Refused (Plain 10))
+halfbandIn n (Designed.Ready l) = cond (Lowpass.usable (divisorOf l n)) (Ready (record { lp = l; n = n; sum = divisorOf l n })) (Refused (Plain badSum))
 halfbandIn n (Designed.Refused why) = Refused why
 
 unfoldable pub halfbandOf : Float → ℕ → HalfbandDesigned
 unfolding lengthTaken
-halfbandOf beta n = cond (lengthTaken n) (halfbandIn n (quarterOf beta n)) (Refused (Plain 6))
+halfbandOf beta n = cond (lengthTaken n) (halfbandIn n (quarterOf beta n)) (Refused (Plain badCount))
 
 -- tap k of a design; 0 past the last one
 unfoldable pub tapWith : HalfbandDesign → Float → ℕ → Float
@@ -98,10 +99,10 @@ abbrev pub mirroredSum : Lowpass → Float
 mirroredSum l = sumTo binary64 (mirrored l) (l .n)
 
 abbrev pub tapsIn : Designed → Outcome
-tapsIn (Designed.Ready l) = cond (Lowpass.usable (mirroredSum l)) (Outcome.Designed (l .n) (mirroredSum l) (λ k. mirrored l k ⊘ mirroredSum l)) (Outcome.Refused (Plain 10))
+tapsIn (Designed.Ready l) = cond (Lowpass.usable (mirroredSum l)) (Outcome.Designed (l .n) (mirroredSum l) (λ k. mirrored l k ⊘ mirroredSum l)) (Outcome.Refused (Plain badSum))
 tapsIn (Designed.Refused why) = Outcome.Refused why
 
 -- what comes of a ticket with a buffer of n elements
 unfoldable pub halfbandTapsOf : Float → ℕ → Outcome
 unfolding lengthTaken
-halfbandTapsOf beta n = cond (lengthTaken n) (tapsIn (quarterOf beta n)) (Outcome.Refused (Plain 6))
+halfbandTapsOf beta n = cond (lengthTaken n) (tapsIn (quarterOf beta n)) (Outcome.Refused (Plain badCount))

@@ -7,6 +7,7 @@ use native.Mathlib.Omega.{arith}
 use borrow.Author.Tests.{lt-ltb}
 use lib.Ieee.{Float}
 use Rattle.laws.specs.Binary64.{_⊘_}
+use Rattle.verdict.specs.Numbers.{badCount, badSum}
 use Rattle.verdict.specs.declared.Refusal.{Refusal}
 use Rattle.verdict.specs.declared.Refusal.the-variants.{Plain}
 use Rattle.fir_sinc.specs.Windows.{normOf}
@@ -47,7 +48,7 @@ module _ (beta : Float) (n : ℕ) where
       unfolding halfbandOf
       ready e = rw a (ap (halfbandIn n) b ∙ rw e)
 
-      pub no-divisor : usable (divisorOf l n) ≡ false → halfbandOf beta n ≡ Refused (Plain 10)
+      pub no-divisor : usable (divisorOf l n) ≡ false → halfbandOf beta n ≡ Refused (Plain badSum)
       unfolding halfbandOf
       no-divisor e = rw a (ap (halfbandIn n) b ∙ rw e)
 
@@ -55,7 +56,7 @@ module _ (beta : Float) (n : ℕ) where
     unfolding halfbandOf
     no-lowpass why b = rw a (ap (halfbandIn n) b)
 
-  pub no-length : lengthTaken n ≡ false → halfbandOf beta n ≡ Refused (Plain 6)
+  pub no-length : lengthTaken n ≡ false → halfbandOf beta n ≡ Refused (Plain badCount)
   unfolding halfbandOf
   no-length a = rw a
 
@@ -86,14 +87,14 @@ pub accepted : (beta : Float) (n : ℕ) (d : HalfbandDesign) → halfbandOf beta
 unfolding halfbandOf
 accepted beta n d e = go (lengthTaken n) (quarterOf beta n) refl refl e
   where
-    tested : (l : Lowpass) (c : Bool) → lengthTaken n ≡ true → quarterOf beta n ≡ Designed.Ready l → usable (divisorOf l n) ≡ c → cond c (Ready (halved l n)) (Refused (Plain 10)) ≡ Ready d → Accepted beta n d
+    tested : (l : Lowpass) (c : Bool) → lengthTaken n ≡ true → quarterOf beta n ≡ Designed.Ready l → usable (divisorOf l n) ≡ c → cond c (Ready (halved l n)) (Refused (Plain badSum)) ≡ Ready d → Accepted beta n d
     tested l true a b c e = record { lowpass = l; long = a; quarter = b; divides = c; is = sym (same-record (halved l n) d e) }
-    tested l false a b c e = absurd (never (Plain 10) d e)
+    tested l false a b c e = absurd (never (Plain badSum) d e)
 
-    go : (a : Bool) (q : Designed) → lengthTaken n ≡ a → quarterOf beta n ≡ q → cond a (halfbandIn n q) (Refused (Plain 6)) ≡ Ready d → Accepted beta n d
+    go : (a : Bool) (q : Designed) → lengthTaken n ≡ a → quarterOf beta n ≡ q → cond a (halfbandIn n q) (Refused (Plain badCount)) ≡ Ready d → Accepted beta n d
     go true (Designed.Ready l) a b e = tested l (usable (divisorOf l n)) a b refl e
     go true (Designed.Refused why) a b e = absurd (never why d e)
-    go false q a b e = absurd (never (Plain 6) d e)
+    go false q a b e = absurd (never (Plain badCount) d e)
 
 -- ---- an accepted design has as many taps as it was asked for
 in-halfband : (n : ℕ) (d : Designed) → Counted n (outcomeOf (halfbandIn n d))

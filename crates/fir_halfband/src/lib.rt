@@ -3,6 +3,8 @@ use fir_lowpass::lowpass::Designed;
 use fir_lowpass::lowpass::Lowpass;
 use fir_lowpass::lowpass::is_usable;
 use fir_sinc::window::Window;
+use verdict::BAD_COUNT;
+use verdict::BAD_SUM;
 use verdict::Refusal;
 ghost use mathlib.Core.Path.{_≡_};
 ghost use Prim.Native.Nat.{_<_};
@@ -89,7 +91,7 @@ pub fn prepare(beta: f64, n: u64, raws: &mut [f64]) -> HalfbandPrepared
     ensures { λ r. ⌜ Prepares (halfbandOf beta n) r (now (raws .exit)) ⌝ }
 {
     if !takes_length(n) {
-        return refused(Refusal::Plain(6));
+        return refused(Refusal::Plain(BAD_COUNT));
     }
     let p = fir_lowpass::lowpass::prepare(0.25, 1.0, Window::Kaiser(beta), n, &mut *raws);
     let designed = p.designed;
@@ -97,7 +99,7 @@ pub fn prepare(beta: f64, n: u64, raws: &mut [f64]) -> HalfbandPrepared
         Designed::Ready(lp) => {
             let sum = total(lp, p.i0, &*raws, n);
             if !is_usable(sum) {
-                return refused(Refusal::Plain(10));
+                return refused(Refusal::Plain(BAD_SUM));
             }
             HalfbandPrepared {
                 designed: HalfbandDesigned::Ready(HalfbandDesign {

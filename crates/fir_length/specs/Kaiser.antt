@@ -10,6 +10,7 @@ use Rattle.laws.specs.Binary64.{_⊕_, _⊖_, _⊗_, _⊘_, whole, fraction, pi
 use Rattle.math_numbers.specs.Numbers.{positive}
 use Rattle.math_exp.specs.Pow04.{pow04Of}
 use Rattle.math_round.specs.Whole.{ceilOf, absOf}
+use Rattle.verdict.specs.Numbers.{badTransition, badAttenuation}
 use Rattle.verdict.specs.declared.Refusal.the-variants.{Plain, Range}
 use Rattle.fir_length.specs.declared.order.Order.{Order}
 use Rattle.fir_length.specs.declared.order.Order.the-variants as Order
@@ -39,13 +40,13 @@ orderOf ripple transition rate =
     let num = estimate a width in
     cond (finite a)
     (cond (lt a (whole 8))
-    (Order.Refused (Plain 4))
+    (Order.Refused (Plain badAttenuation))
     (cond (positive width)
     (cond (lt (whole 16777216) num)
-    (Order.Refused (Range 3 (whole 0) rate transition))
+    (Order.Refused (Range badTransition (whole 0) rate transition))
     (Order.Taps (oddUp (toUnsigned 64 (ceilOf num))) (betaOf a)))
-    (Order.Refused (Plain 3))))
-    (Order.Refused (Plain 4))
+    (Order.Refused (Plain badTransition))))
+    (Order.Refused (Plain badAttenuation))
 
 -- ---- the half-band's: 3 over a multiple of 4
 unfoldable pub halfbandUp : ℕ → ℕ

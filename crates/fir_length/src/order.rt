@@ -1,6 +1,8 @@
 // The number of taps of a Kaiser design.
 use super::beta::kaiser_beta;
 use math_numbers::PI;
+use verdict::BAD_ATTENUATION;
+use verdict::BAD_TRANSITION;
 use verdict::Length;
 use verdict::Refusal;
 ghost use mathlib.Core.Path.{_≡_};
@@ -37,18 +39,18 @@ pub fn kaiserord(ripple: f64, transition: f64, rate: f64) -> Order
 {
     let a = math_round::fabs::fabs(ripple);
     if !math_numbers::is_finite(a) {
-        return Order::Refused(Refusal::Plain(4));
+        return Order::Refused(Refusal::Plain(BAD_ATTENUATION));
     }
     if a < 8.0 {
-        return Order::Refused(Refusal::Plain(4));
+        return Order::Refused(Refusal::Plain(BAD_ATTENUATION));
     }
     let width = 2.0 * transition / rate;
     if !math_numbers::is_positive(width) {
-        return Order::Refused(Refusal::Plain(3));
+        return Order::Refused(Refusal::Plain(BAD_TRANSITION));
     }
     let num = taps_estimate(a, width);
     if num > 16777216.0 {
-        return Order::Refused(Refusal::Range(3, 0.0, rate, transition));
+        return Order::Refused(Refusal::Range(BAD_TRANSITION, 0.0, rate, transition));
     }
     let n = odd_taps(num);
     let beta = kaiser_beta(a);

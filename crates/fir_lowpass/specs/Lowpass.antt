@@ -10,6 +10,7 @@ use Rattle.laws.specs.Binary64.{_⊘_, whole, fraction}
 use Rattle.laws.specs.Filled.{tabulate}
 use Rattle.laws.specs.Sums.{sumTo}
 use Rattle.math_numbers.specs.Numbers.{positive}
+use Rattle.verdict.specs.Numbers.{badRate, badFrequency, badAttenuation, badCount, badSum}
 use Rattle.verdict.specs.declared.Refusal.the-variants.{Plain, Range}
 use Rattle.verdict.specs.Outcome.{Outcome}
 use Rattle.verdict.specs.Outcome as Outcome
@@ -53,11 +54,11 @@ lowpassOf cutoff rate w n =
     (cond (betaTaken w)
     (cond (usable sum)
     (Ready (record { n = n; fc = fc; window = w; sum = sum }))
-    (Refused (Plain 10)))
-    (Refused (Plain 4)))
-    (Refused (Plain 6)))
-    (Refused (Range 2 (whole 0) (rate ⊘ whole 2) cutoff)))
-    (Refused (Plain 1))
+    (Refused (Plain badSum)))
+    (Refused (Plain badAttenuation)))
+    (Refused (Plain badCount)))
+    (Refused (Range badFrequency (whole 0) (rate ⊘ whole 2) cutoff)))
+    (Refused (Plain badRate))
 
 -- ---- the taps
 -- tap i of a design; 0 past the last one, and for a record that no design gives

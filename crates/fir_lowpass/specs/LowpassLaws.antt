@@ -12,6 +12,7 @@ use Rattle.laws.specs.Binary64.{_⊘_, whole}
 use Rattle.laws.specs.Filled.{tabulate}
 use Rattle.laws.specs.Tests.{both}
 use Rattle.math_numbers.specs.Numbers.{positive}
+use Rattle.verdict.specs.Numbers.{badRate, badFrequency, badAttenuation, badCount, badSum}
 use Rattle.verdict.specs.declared.Refusal.{Refusal}
 use Rattle.verdict.specs.declared.Refusal.the-variants.{Plain, Range}
 use Rattle.verdict.specs.Outcome.{Fills}
@@ -54,23 +55,23 @@ module _ (cutoff rate : Float) (w : Window) (n : ℕ) where
           unfolding lowpassOf
           ready e = rw (a, b, c, d, e)
 
-          pub no-divisor : usable (divisorOf (cutoff ⊘ rate) w n) ≡ false → lowpassOf cutoff rate w n ≡ Refused (Plain 10)
+          pub no-divisor : usable (divisorOf (cutoff ⊘ rate) w n) ≡ false → lowpassOf cutoff rate w n ≡ Refused (Plain badSum)
           unfolding lowpassOf
           no-divisor e = rw (a, b, c, d, e)
 
-        pub no-beta : betaTaken w ≡ false → lowpassOf cutoff rate w n ≡ Refused (Plain 4)
+        pub no-beta : betaTaken w ≡ false → lowpassOf cutoff rate w n ≡ Refused (Plain badAttenuation)
         unfolding lowpassOf
         no-beta d = rw (a, b, c, d)
 
-      pub no-count : countTaken n ≡ false → lowpassOf cutoff rate w n ≡ Refused (Plain 6)
+      pub no-count : countTaken n ≡ false → lowpassOf cutoff rate w n ≡ Refused (Plain badCount)
       unfolding lowpassOf
       no-count c = rw (a, b, c)
 
-    pub no-cutoff : inside (cutoff ⊘ rate) ≡ false → lowpassOf cutoff rate w n ≡ Refused (Range 2 (whole 0) (rate ⊘ whole 2) cutoff)
+    pub no-cutoff : inside (cutoff ⊘ rate) ≡ false → lowpassOf cutoff rate w n ≡ Refused (Range badFrequency (whole 0) (rate ⊘ whole 2) cutoff)
     unfolding lowpassOf
     no-cutoff b = rw (a, b)
 
-  pub no-rate : positive rate ≡ false → lowpassOf cutoff rate w n ≡ Refused (Plain 1)
+  pub no-rate : positive rate ≡ false → lowpassOf cutoff rate w n ≡ Refused (Plain badRate)
   unfolding lowpassOf
   no-rate a = rw a
 
@@ -105,14 +106,14 @@ ready-is cutoff rate w n l e = go (positive rate) (inside (cutoff ⊘ rate)) (co
     r = record { n = n; fc = cutoff ⊘ rate; window = w; sum = divisorOf (cutoff ⊘ rate) w n }
 
     go : (a b c d f : Bool) → (c ≡ true → countTaken n ≡ true)
-        → cond a (cond b (cond c (cond d (cond f (Ready r) (Refused (Plain 10))) (Refused (Plain 4))) (Refused (Plain 6))) (Refused (Range 2 (whole 0) (rate ⊘ whole 2) cutoff))) (Refused (Plain 1)) ≡ Ready l
+        → cond a (cond b (cond c (cond d (cond f (Ready r) (Refused (Plain badSum))) (Refused (Plain badAttenuation))) (Refused (Plain badCount))) (Refused (Range badFrequency (whole 0) (rate ⊘ whole 2) cutoff))) (Refused (Plain badRate)) ≡ Ready l
         → Accepted cutoff rate w n l
     go true true true true true k e = record { counted = k refl; is = cc }
-    go true true true true false k e = absurd (never (Plain 10) l e)
-    go true true true false f k e = absurd (never (Plain 4) l e)
-    go true true false d f k e = absurd (never (Plain 6) l e)
-    go true false c d f k e = absurd (never (Range 2 (whole 0) (rate ⊘ whole 2) cutoff) l e)
-    go false b c d f k e = absurd (never (Plain 1) l e)
+    go true true true true false k e = absurd (never (Plain badSum) l e)
+    go true true true false f k e = absurd (never (Plain badAttenuation) l e)
+    go true true false d f k e = absurd (never (Plain badCount) l e)
+    go true false c d f k e = absurd (never (Range badFrequency (whole 0) (rate ⊘ whole 2) cutoff) l e)
+    go false b c d f k e = absurd (never (Plain badRate) l e)
 
 -- ---- a buffer
 module _ (g : Designed) (d : List Float) where

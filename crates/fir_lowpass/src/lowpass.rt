@@ -4,6 +4,11 @@ use fir_sinc::tap::raw_tap;
 use fir_sinc::window::Window;
 use fir_sinc::window::norm;
 use math_numbers::TAP_LIMIT;
+use verdict::BAD_ATTENUATION;
+use verdict::BAD_COUNT;
+use verdict::BAD_FREQUENCY;
+use verdict::BAD_RATE;
+use verdict::BAD_SUM;
 use verdict::Refusal;
 use verdict::Verdict;
 ghost use mathlib.Core.Path.{_≡_};
@@ -81,22 +86,22 @@ pub fn prepare(cutoff: f64, rate: f64, window: Window, n: u64, raws: &mut [f64])
     ensures { λ r. ⌜ Prepares (lowpassOf cutoff rate window n) r (now (raws .exit)) ⌝ }
 {
     if !math_numbers::is_positive(rate) {
-        return refused(Refusal::Plain(1));
+        return refused(Refusal::Plain(BAD_RATE));
     }
     let fc = cutoff / rate;
     if !is_inside(fc) {
-        return refused(Refusal::Range(2, 0.0, rate / 2.0, cutoff));
+        return refused(Refusal::Range(BAD_FREQUENCY, 0.0, rate / 2.0, cutoff));
     }
     if !takes_count(n) {
-        return refused(Refusal::Plain(6));
+        return refused(Refusal::Plain(BAD_COUNT));
     }
     if !takes_beta(window) {
-        return refused(Refusal::Plain(4));
+        return refused(Refusal::Plain(BAD_ATTENUATION));
     }
     let i0 = norm(window);
     let sum = total(fc, window, i0, n, &mut *raws);
     if !is_usable(sum) {
-        return refused(Refusal::Plain(10));
+        return refused(Refusal::Plain(BAD_SUM));
     }
     Prepared {
         designed: Designed::Ready(Lowpass {

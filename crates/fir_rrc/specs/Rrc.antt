@@ -11,6 +11,7 @@ use Rattle.laws.specs.Sums.{sumTo}
 use Rattle.math_round.specs.Whole.{absOf}
 use Rattle.math_sqrt.specs.Sqrt.{sqrtOf}
 use Rattle.math_trig.specs.Trig.{sinOf, cosOf}
+use Rattle.verdict.specs.Numbers.{badShape, badCount}
 use Rattle.verdict.specs.declared.Length.{Length}
 use Rattle.verdict.specs.declared.Length.the-variants as Length
 use Rattle.verdict.specs.declared.Refusal.the-variants as Refusal
@@ -33,8 +34,8 @@ rrcLenOf sps span =
     cond (sampled sps)
     (cond (spanned span)
     (Length.Taps (span * sps + 1))
-    (Length.Refused (Refusal.Range 6 (whole 4) (whole 32) (whole span))))
-    (Length.Refused (Refusal.Range 6 (whole 2) (whole 1024) (whole sps)))
+    (Length.Refused (Refusal.Range badCount (whole 4) (whole 32) (whole span))))
+    (Length.Refused (Refusal.Range badCount (whole 2) (whole 1024) (whole sps)))
 
 -- ---- the pulse at t, before the scaling
 unfoldable pub peak : Float → Float
@@ -72,7 +73,7 @@ rrcIn b sps (Length.Refused why) = Refused why
 
 unfoldable pub rrcOf : Float → ℕ → ℕ → RrcDesigned
 unfolding rolloffTaken
-rrcOf b sps span = cond (rolloffTaken b) (rrcIn b sps (rrcLenOf sps span)) (Refused (Refusal.Range 5 (fraction 5 100) (whole 1) b))
+rrcOf b sps span = cond (rolloffTaken b) (rrcIn b sps (rrcLenOf sps span)) (Refused (Refusal.Range badShape (fraction 5 100) (whole 1) b))
 
 -- tap k of a design, a product; 0 past the last one, and for a record that no design gives
 unfoldable pub tapOf : Rrc → ℕ → Float

@@ -11,6 +11,7 @@ use Rattle.laws.specs.Binary64.{_⊗_, _⊘_, whole, fraction}
 use Rattle.laws.specs.Sums.{sumTo}
 use Rattle.laws.specs.Tests.{both}
 use Rattle.math_sqrt.specs.Sqrt.{sqrtOf}
+use Rattle.verdict.specs.Numbers.{badShape, badCount}
 use Rattle.verdict.specs.declared.Refusal.{Refusal}
 use Rattle.verdict.specs.declared.Refusal.the-variants.{Range}
 use Rattle.verdict.specs.declared.Length.the-variants as Length
@@ -39,11 +40,11 @@ module _ (sps span : ℕ) where
     unfolding rrcLenOf
     so-many b = rw (a, b)
 
-    pub no-span : spanned span ≡ false → rrcLenOf sps span ≡ Length.Refused (Range 6 (whole 4) (whole 32) (whole span))
+    pub no-span : spanned span ≡ false → rrcLenOf sps span ≡ Length.Refused (Range badCount (whole 4) (whole 32) (whole span))
     unfolding rrcLenOf
     no-span b = rw (a, b)
 
-  pub no-samples : sampled sps ≡ false → rrcLenOf sps span ≡ Length.Refused (Range 6 (whole 2) (whole 1024) (whole sps))
+  pub no-samples : sampled sps ≡ false → rrcLenOf sps span ≡ Length.Refused (Range badCount (whole 2) (whole 1024) (whole sps))
   unfolding rrcLenOf
   no-samples a = rw a
 
@@ -61,14 +62,14 @@ unfolding rrcLenOf
 few sps span n e = go (sampled sps) (spanned span) (samples-most sps) (product-most sps span) e
   where
     go : (a b : Bool) → (a ≡ true → sps ≤ 1024) → (a ≡ true → b ≡ true → span * sps ≤ 32768)
-        → cond a (cond b (Length.Taps (span * sps + 1)) (Length.Refused (Range 6 (whole 4) (whole 32) (whole span)))) (Length.Refused (Range 6 (whole 2) (whole 1024) (whole sps))) ≡ Length.Taps n
+        → cond a (cond b (Length.Taps (span * sps + 1)) (Length.Refused (Range badCount (whole 4) (whole 32) (whole span)))) (Length.Refused (Range badCount (whole 2) (whole 1024) (whole sps))) ≡ Length.Taps n
         → Few sps n
     go true true h k e =
         let s : span * sps + 1 ≡ n = cc in
         let p = k refl refl in
         record { samples = h refl; taps = omega arith }
-    go true false h k e = absurd (never (Range 6 (whole 4) (whole 32) (whole span)) n e)
-    go false b h k e = absurd (never (Range 6 (whole 2) (whole 1024) (whole sps)) n e)
+    go true false h k e = absurd (never (Range badCount (whole 4) (whole 32) (whole span)) n e)
+    go false b h k e = absurd (never (Range badCount (whole 2) (whole 1024) (whole sps)) n e)
 
 -- ---- the design, by the number of taps
 module _ (b : Float) (sps span : ℕ) where
@@ -76,7 +77,7 @@ module _ (b : Float) (sps span : ℕ) where
   unfolding rrcOf
   by-length h = rw h
 
-  pub no-rolloff : rolloffTaken b ≡ false → rrcOf b sps span ≡ Refused (Range 5 (fraction 5 100) (whole 1) b)
+  pub no-rolloff : rolloffTaken b ≡ false → rrcOf b sps span ≡ Refused (Range badShape (fraction 5 100) (whole 1) b)
   unfolding rrcOf
   no-rolloff h = rw h
 

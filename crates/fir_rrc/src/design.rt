@@ -1,6 +1,8 @@
 // The design of the root-raised-cosine pulse: judged first, then its taps one at a time.
 use math_numbers::PI;
 use math_numbers::TAP_LIMIT;
+use verdict::BAD_COUNT;
+use verdict::BAD_SHAPE;
 use verdict::Length;
 use verdict::Refusal;
 ghost use mathlib.Core.Path.{_≡_};
@@ -45,10 +47,20 @@ pub fn rrc_len(sps: u64, span: u64) -> Length
     ensures { λ r. ⌜ r ≡ rrcLenOf sps span ⌝ }
 {
     if !takes_samples(sps) {
-        return Length::Refused(Refusal::Range(6, 2.0, 1024.0, std::num::nearest_u64_to_f64(sps)));
+        return Length::Refused(Refusal::Range(
+            BAD_COUNT,
+            2.0,
+            1024.0,
+            std::num::nearest_u64_to_f64(sps),
+        ));
     }
     if !takes_span(span) {
-        return Length::Refused(Refusal::Range(6, 4.0, 32.0, std::num::nearest_u64_to_f64(span)));
+        return Length::Refused(Refusal::Range(
+            BAD_COUNT,
+            4.0,
+            32.0,
+            std::num::nearest_u64_to_f64(span),
+        ));
     }
     Length::Taps(span * sps + 1)
 }
@@ -129,7 +141,7 @@ impl Rrc {
         ensures { λ r. ⌜ r ≡ rrcOf rolloff sps span ⌝ }
     {
         if !takes_rolloff(rolloff) {
-            return RrcDesigned::Refused(Refusal::Range(5, 0.05, 1.0, rolloff));
+            return RrcDesigned::Refused(Refusal::Range(BAD_SHAPE, 0.05, 1.0, rolloff));
         }
         let length = rrc_len(sps, span);
         match length {

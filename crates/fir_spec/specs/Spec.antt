@@ -6,6 +6,7 @@ use lib.Dec.{eqb, ltb}
 use lib.Ieee.{Float, lt, le}
 use Rattle.laws.specs.Binary64.{_⊖_, _⊘_, whole}
 use Rattle.math_numbers.specs.Numbers.{positive}
+use Rattle.verdict.specs.Numbers.{badRate, badFrequency, badTransition}
 use Rattle.verdict.specs.declared.Refusal.the-variants as Refusal
 use Rattle.fir_length.specs.Kaiser.{orderOf}
 use Rattle.fir_length.specs.declared.order.Order.{Order}
@@ -34,9 +35,9 @@ specOrderOf spec rate max =
     (cond (positive (spec .transition))
     (cond (cutoffTaken (spec .cutoff) most)
     (cappedOf (orderOf (spec .attenuation) (spec .transition) rate) max)
-    (Order.Refused (Refusal.Range 2 (whole 0) most (spec .cutoff))))
-    (Order.Refused (Refusal.Range 3 (whole 0) (rate ⊘ whole 2) (spec .transition))))
-    (Order.Refused (Refusal.Plain 1))
+    (Order.Refused (Refusal.Range badFrequency (whole 0) most (spec .cutoff))))
+    (Order.Refused (Refusal.Range badTransition (whole 0) (rate ⊘ whole 2) (spec .transition))))
+    (Order.Refused (Refusal.Plain badRate))
 
 -- ---- what each answer makes of the order
 abbrev pub tapsIn : Order → Length

@@ -7,6 +7,9 @@ use fir_lowpass::lowpass::Prepared;
 use fir_lowpass::lowpass::finish;
 use fir_lowpass::lowpass::prepare;
 use fir_sinc::window::Window;
+use verdict::BAD_FREQUENCY;
+use verdict::BAD_RATE;
+use verdict::BAD_TRANSITION;
 use verdict::Length;
 use verdict::Refusal;
 use verdict::Verdict;
@@ -52,16 +55,16 @@ pub fn spec_order(spec: DesignSpec, rate: f64, cap: u64) -> Order
     ensures { λ r. ⌜ r ≡ specOrderOf spec rate cap ⌝ }
 {
     if !math_numbers::is_positive(rate) {
-        return Order::Refused(Refusal::Plain(1));
+        return Order::Refused(Refusal::Plain(BAD_RATE));
     }
     let transition = spec.transition;
     if !math_numbers::is_positive(transition) {
-        return Order::Refused(Refusal::Range(3, 0.0, rate / 2.0, transition));
+        return Order::Refused(Refusal::Range(BAD_TRANSITION, 0.0, rate / 2.0, transition));
     }
     let cutoff = spec.cutoff;
     let most = rate / 2.0 - transition / 2.0;
     if !takes_cutoff(cutoff, most) {
-        return Order::Refused(Refusal::Range(2, 0.0, most, cutoff));
+        return Order::Refused(Refusal::Range(BAD_FREQUENCY, 0.0, most, cutoff));
     }
     capped(kaiserord(spec.attenuation, transition, rate), cap)
 }

@@ -7,6 +7,7 @@ use lib.Ieee.{Float, inf, neg, lt}
 use lib.Ieee.Scale.{finite}
 use Rattle.laws.specs.Binary64.{_⊕_, _⊖_, _⊗_, _⊘_, whole, pi}
 use Rattle.math_trig.specs.Trig.{sinOf, cosOf}
+use Rattle.verdict.specs.Numbers.{badFrequency, badShape}
 use Rattle.verdict.specs.declared.Refusal.the-variants.{Range}
 use Rattle.iir_biquad.specs.declared.biquad.Response.{Response}
 use Rattle.iir_biquad.specs.declared.biquad.Response.the-variants.{Lowpass, Highpass, Bandpass, Notch}
@@ -50,5 +51,5 @@ biquadOf r centre q rate =
     cond (centreTaken centre rate)
     (cond (qualityTaken q)
     (record { coefs = sectionOf r (cosOf w0) (sinOf w0 ⊘ (whole 2 ⊗ q)); verdict = Done })
-    (record { coefs = zeros; verdict = Refused (Range 5 (whole 0) (inf false) q) }))
-    (record { coefs = zeros; verdict = Refused (Range 2 (whole 0) (rate ⊘ whole 2) centre) })
+    (record { coefs = zeros; verdict = Refused (Range badShape (whole 0) (inf false) q) }))
+    (record { coefs = zeros; verdict = Refused (Range badFrequency (whole 0) (rate ⊘ whole 2) centre) })

@@ -6,6 +6,7 @@ use mathlib.Core.List.{List, [], _∷_}
 use lib.Ieee.{Float, inf, lt, le}
 use lib.Ieee.Scale.{finite}
 use Rattle.laws.specs.Binary64.{_⊕_, _⊖_, _⊗_, _⊘_, whole, fraction, pi}
+use Rattle.verdict.specs.Numbers.{badRate, badShape}
 use Rattle.verdict.specs.declared.Refusal.the-variants.{Range}
 use Rattle.verdict.specs.declared.Verdict.the-variants.{Done, Refused}
 use Rattle.iir_biquad.specs.declared.preemphasis.Preemphasis.{Preemphasis}
@@ -31,5 +32,5 @@ preemphasisOf tau rate =
     cond (constantTaken tau)
     (cond (rateTaken rate)
     (record { coefs = (whole 1 ⊕ k ⊗ tau) ⊘ den ∷ (whole 1 ⊖ k ⊗ tau) ⊘ den ∷ (whole 1 ⊖ k ⊗ pole) ⊘ den ∷ []; verdict = Done })
-    (record { coefs = zeros; verdict = Refused (Range 1 (whole 40000) (inf false) rate) }))
-    (record { coefs = zeros; verdict = Refused (Range 5 (whole 0) (fraction 1 1000) tau) })
+    (record { coefs = zeros; verdict = Refused (Range badRate (whole 40000) (inf false) rate) }))
+    (record { coefs = zeros; verdict = Refused (Range badShape (whole 0) (fraction 1 1000) tau) })

@@ -1,5 +1,7 @@
 // One second-order section of the RBJ Audio EQ Cookbook.
 use math_numbers::PI;
+use verdict::BAD_FREQUENCY;
+use verdict::BAD_SHAPE;
 use verdict::Refusal;
 use verdict::Verdict;
 ghost use mathlib.Core.Path.{_≡_};
@@ -67,14 +69,14 @@ pub fn biquad_coefs(response: Response, centre: f64, q: f64, rate: f64) -> Biqua
     if !takes_centre(centre, rate) {
         return Biquad {
             coefs: [0.0, 0.0, 0.0, 0.0, 0.0],
-            verdict: Verdict::Refused(Refusal::Range(2, 0.0, rate / 2.0, centre)),
+            verdict: Verdict::Refused(Refusal::Range(BAD_FREQUENCY, 0.0, rate / 2.0, centre)),
         };
     }
     if !takes_quality(q) {
         let inf = 1.0 / 0.0;
         return Biquad {
             coefs: [0.0, 0.0, 0.0, 0.0, 0.0],
-            verdict: Verdict::Refused(Refusal::Range(5, 0.0, inf, q)),
+            verdict: Verdict::Refused(Refusal::Range(BAD_SHAPE, 0.0, inf, q)),
         };
     }
     let w0 = 2.0 * PI * centre / rate;

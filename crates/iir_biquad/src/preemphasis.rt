@@ -1,5 +1,7 @@
 // First-order pre-emphasis.
 use math_numbers::PI;
+use verdict::BAD_RATE;
+use verdict::BAD_SHAPE;
 use verdict::Refusal;
 use verdict::Verdict;
 ghost use mathlib.Core.Path.{_≡_};
@@ -32,14 +34,14 @@ pub fn preemphasis_coefs(tau: f64, rate: f64) -> Preemphasis
     if !takes_constant(tau) {
         return Preemphasis {
             coefs: [0.0, 0.0, 0.0],
-            verdict: Verdict::Refused(Refusal::Range(5, 0.0, 0.001, tau)),
+            verdict: Verdict::Refused(Refusal::Range(BAD_SHAPE, 0.0, 0.001, tau)),
         };
     }
     if !takes_rate(rate) {
         let inf = 1.0 / 0.0;
         return Preemphasis {
             coefs: [0.0, 0.0, 0.0],
-            verdict: Verdict::Refused(Refusal::Range(1, 40000.0, inf, rate)),
+            verdict: Verdict::Refused(Refusal::Range(BAD_RATE, 40000.0, inf, rate)),
         };
     }
     let pole = 1.0 / (2.0 * PI * (rate / 2.4));

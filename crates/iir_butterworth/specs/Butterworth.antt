@@ -7,6 +7,7 @@ use lib.ListN.{getD}
 use lib.Ieee.{Float, nan}
 use Rattle.laws.specs.Binary64.{_⊖_, _⊗_, _⊘_, whole, pi}
 use Rattle.math_trig.specs.Trig.{cosOf}
+use Rattle.verdict.specs.Numbers.{badFrequency, badCount, badCode}
 use Rattle.verdict.specs.declared.Refusal.the-variants.{Plain, Range, Length}
 use Rattle.verdict.specs.Outcome.{Outcome}
 use Rattle.verdict.specs.Outcome as Outcome
@@ -40,7 +41,7 @@ butterworthOf r order cutoff rate len =
     (cond (eqb len (order / 2 * 5))
     (cond (centreTaken cutoff rate)
     (Outcome.Designed len (whole 0) (coefAt r order cutoff rate))
-    (Outcome.Refused (Range 2 (whole 0) (rate ⊘ whole 2) cutoff)))
+    (Outcome.Refused (Range badFrequency (whole 0) (rate ⊘ whole 2) cutoff)))
     (Outcome.Refused (Length (order / 2 * 5) len)))
-    (Outcome.Refused (Plain 6)))
-    (Outcome.Refused (Plain 7))
+    (Outcome.Refused (Plain badCount)))
+    (Outcome.Refused (Plain badCode))

@@ -16,6 +16,7 @@ use Rattle.laws.specs.Floor.{floorZ}
 use Rattle.laws.specs.Tests.{both}
 use Rattle.math_round.specs.Whole.{floorOf, absOf, asFloat}
 use Rattle.math_trig.specs.Trig.{sinOf, cosOf}
+use Rattle.verdict.specs.Numbers.{badFrequency, badCount, badCode}
 use Rattle.verdict.specs.Outcome.{Outcome, answered}
 use Rattle.verdict.specs.Outcome as Outcome
 use Rattle.verdict.specs.declared.Verdict.the-variants as Verdict
@@ -131,12 +132,12 @@ never-refused r order i cutoff rate t h c = rw (c, quality-taken order i t h)
 
 -- ---- the outcome, from what the tests so far said
 module _ (r : Response) (order : ℕ) (cutoff rate : Float) (len : ℕ) where
-  pub no-response : responseTaken r ≡ false → butterworthOf r order cutoff rate len ≡ Outcome.Refused (Plain 7)
+  pub no-response : responseTaken r ≡ false → butterworthOf r order cutoff rate len ≡ Outcome.Refused (Plain badCode)
   unfolding butterworthOf
   no-response a = rw a
 
   module _ (a : responseTaken r ≡ true) where
-    pub no-order : orderTaken order ≡ false → butterworthOf r order cutoff rate len ≡ Outcome.Refused (Plain 6)
+    pub no-order : orderTaken order ≡ false → butterworthOf r order cutoff rate len ≡ Outcome.Refused (Plain badCount)
     unfolding butterworthOf
     no-order b = rw (a, b)
 
@@ -146,7 +147,7 @@ module _ (r : Response) (order : ℕ) (cutoff rate : Float) (len : ℕ) where
       no-length c = rw (a, b, c)
 
       module _ (c : eqb len (order / 2 * 5) ≡ true) where
-        pub no-centre : centreTaken cutoff rate ≡ false → butterworthOf r order cutoff rate len ≡ Outcome.Refused (Range 2 (whole 0) (rate ⊘ whole 2) cutoff)
+        pub no-centre : centreTaken cutoff rate ≡ false → butterworthOf r order cutoff rate len ≡ Outcome.Refused (Range badFrequency (whole 0) (rate ⊘ whole 2) cutoff)
         unfolding butterworthOf
         no-centre e = rw (a, b, c, e)
 
@@ -176,7 +177,7 @@ right r order cutoff rate len e =
     is = Outcome.Designed len (whole 0) (coefAt r order cutoff rate)
 
     by : Bool → Bool → Bool → Bool → Outcome
-    by a b c d = cond a (cond b (cond c (cond d is (Outcome.Refused (Range 2 (whole 0) (rate ⊘ whole 2) cutoff))) (Outcome.Refused (Length n len))) (Outcome.Refused (Plain 6))) (Outcome.Refused (Plain 7))
+    by a b c d = cond a (cond b (cond c (cond d is (Outcome.Refused (Range badFrequency (whole 0) (rate ⊘ whole 2) cutoff))) (Outcome.Refused (Length n len))) (Outcome.Refused (Plain badCount))) (Outcome.Refused (Plain badCode))
 
     go : (a b c d : Bool) → (b ≡ true → OrderIs order) → (c ≡ true → len ≡ n) → Verdict.Done ≡ answered (by a b c d) → OrderIs order × (len ≡ n) × (by a b c d ≡ is)
     go true true true true p q e = (p refl, q refl, refl)

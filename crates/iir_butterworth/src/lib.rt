@@ -3,6 +3,9 @@ use iir_biquad::biquad::Response;
 use iir_biquad::biquad::biquad_coefs;
 use iir_biquad::biquad::takes_centre;
 use math_numbers::PI;
+use verdict::BAD_CODE;
+use verdict::BAD_COUNT;
+use verdict::BAD_FREQUENCY;
 use verdict::Refusal;
 use verdict::Verdict;
 ghost use mathlib.Core.Path.{_≡_};
@@ -55,17 +58,17 @@ pub fn judge(response: Response, order: u64, cutoff: f64, rate: f64, len: u64) -
     ensures { λ r. ⌜ r ≡ answered (butterworthOf response order cutoff rate len) ⌝ }
 {
     if !takes_response(response) {
-        return Verdict::Refused(Refusal::Plain(7));
+        return Verdict::Refused(Refusal::Plain(BAD_CODE));
     }
     if !takes_order(order) {
-        return Verdict::Refused(Refusal::Plain(6));
+        return Verdict::Refused(Refusal::Plain(BAD_COUNT));
     }
     let expected = order / 2 * 5;
     if len != expected {
         return Verdict::Refused(Refusal::Length(expected, len));
     }
     if !takes_centre(cutoff, rate) {
-        return Verdict::Refused(Refusal::Range(2, 0.0, rate / 2.0, cutoff));
+        return Verdict::Refused(Refusal::Range(BAD_FREQUENCY, 0.0, rate / 2.0, cutoff));
     }
     Verdict::Done
 }

@@ -9,6 +9,7 @@ use lib.Ieee.{Float, binary64}
 use Rattle.laws.specs.Binary64.{_⊘_, whole}
 use Rattle.laws.specs.Filled.{tabulate, tabulate-below}
 use Rattle.laws.specs.Sums.{sum-below}
+use Rattle.verdict.specs.Numbers.{badCount, badSum}
 use Rattle.verdict.specs.declared.Refusal.{Refusal}
 use Rattle.verdict.specs.declared.Refusal.the-variants.{Plain}
 use Rattle.verdict.specs.Outcome.{Outcome, Fills}
@@ -49,10 +50,10 @@ module _ (l : Lowpass) (o : l .n % 2 ≡ 1) where
 
   agree-in : Agrees (tapsIn (Designed.Ready l)) (outcomeOf (halfbandIn (l .n) (Designed.Ready l)))
   agree-in =
-      subst (λ (z : Float). Agrees (cond (Lowpass.usable z) (Outcome.Designed (l .n) z (λ k. mirrored l k ⊘ z)) (Outcome.Refused (Plain 10))) (outcomeOf (halfbandIn (l .n) (Designed.Ready l)))) divisor-mirrored
+      subst (λ (z : Float). Agrees (cond (Lowpass.usable z) (Outcome.Designed (l .n) z (λ k. mirrored l k ⊘ z)) (Outcome.Refused (Plain badSum))) (outcomeOf (halfbandIn (l .n) (Designed.Ready l)))) divisor-mirrored
       (tested (Lowpass.usable (divisorOf l (l .n))))
     where
-      tested : (b : Bool) → Agrees (cond b (Outcome.Designed (l .n) (divisorOf l (l .n)) (λ k. mirrored l k ⊘ divisorOf l (l .n))) (Outcome.Refused (Plain 10))) (outcomeOf (cond b (Ready (halved l (l .n))) (Refused (Plain 10))))
+      tested : (b : Bool) → Agrees (cond b (Outcome.Designed (l .n) (divisorOf l (l .n)) (λ k. mirrored l k ⊘ divisorOf l (l .n))) (Outcome.Refused (Plain badSum))) (outcomeOf (cond b (Ready (halved l (l .n))) (Refused (Plain badSum))))
       tested true = (refl, refl, λ k h. ap (λ (z : Float). z ⊘ divisorOf l (l .n)) (sym (unscaled-mirrored k h)) ∙ sym (tap-is (halved l (l .n)) k h))
       tested false = refl
 
@@ -62,7 +63,7 @@ unfolding halfbandTapsOf halfbandOf
 agree beta n = go (lengthTaken n) (quarterOf beta n) refl refl
   where
     go : (a : Bool) (q : Designed) → lengthTaken n ≡ a → quarterOf beta n ≡ q
-        → Agrees (cond a (tapsIn q) (Outcome.Refused (Plain 6))) (outcomeOf (cond a (halfbandIn n q) (Refused (Plain 6))))
+        → Agrees (cond a (tapsIn q) (Outcome.Refused (Plain badCount))) (outcomeOf (cond a (halfbandIn n q) (Refused (Plain badCount))))
     go true (Designed.Ready l) a b =
         let e : l .n ≡ n = ap (λ (z : Lowpass). z .n) (ready-is _ _ (Kaiser beta) n l b .is) in
         subst (λ (m : ℕ). Agrees (tapsIn (Designed.Ready l)) (outcomeOf (halfbandIn m (Designed.Ready l)))) e

@@ -4,6 +4,29 @@ ghost use mathlib.Core.Path.{_≡_};
 ghost use Rattle.verdict.specs.Report.{told, reportOf, acceptedOf};
 ghost use Rattle.verdict.specs.Reports.{lengthReport};
 
+// The refusals' numbers. Caused by the ticket's author: the rate.
+pub const BAD_RATE: u32 = 1;
+// The cutoff, the centre or a band edge.
+pub const BAD_FREQUENCY: u32 = 2;
+// The transition, or a length past 2^24 taps.
+pub const BAD_TRANSITION: u32 = 3;
+// The attenuation or beta.
+pub const BAD_ATTENUATION: u32 = 4;
+// The bandwidth bt, the roll-off, the quality q or the time constant.
+pub const BAD_SHAPE: u32 = 5;
+// A count: taps, order, span, samples, channels or branch.
+pub const BAD_COUNT: u32 = 6;
+// An unknown code, or a response that a Butterworth filter hasn't.
+pub const BAD_CODE: u32 = 7;
+// Caused by the host program: the buffer's length.
+pub const BAD_LENGTH: u32 = 8;
+// More taps than the cap.
+pub const TOO_MANY_TAPS: u32 = 9;
+// Caused by arithmetic: the sum that the taps are divided by is 0 or not finite.
+pub const BAD_SUM: u32 = 10;
+// An element that Q15 or Q14 can't take.
+pub const BAD_ELEMENT: u32 = 11;
+
 // Why a ticket is refused: a shape with its number, so that a new number needs no new shape.
 pub enum Refusal {
     // The number alone.
@@ -85,7 +108,7 @@ pub fn refused(why: Refusal) -> Report
         Refusal::Plain(k) => without_results(k, 0, 0.0, 0.0, 0.0, 0, 0, 0),
         Refusal::Range(k, lo, hi, got) => without_results(k, 1, lo, hi, got, 0, 0, 0),
         Refusal::Length(expected, given) => without_results(
-            8,
+            BAD_LENGTH,
             2,
             0.0,
             0.0,
@@ -97,9 +120,9 @@ pub fn refused(why: Refusal) -> Report
         Refusal::Cap(n, cap) => {
             let lo = std::num::nearest_u64_to_f64(n);
             let got = std::num::nearest_u64_to_f64(cap);
-            without_results(9, 3, lo, 16777216.0, got, n, cap, 0)
+            without_results(TOO_MANY_TAPS, 3, lo, 16777216.0, got, n, cap, 0)
         }
-        Refusal::Element(i, lo, hi, got) => without_results(11, 4, lo, hi, got, 0, 0, i),
+        Refusal::Element(i, lo, hi, got) => without_results(BAD_ELEMENT, 4, lo, hi, got, 0, 0, i),
     }
 }
 

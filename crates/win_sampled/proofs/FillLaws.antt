@@ -8,6 +8,7 @@ use borrow.Author.Tests.{not-true, not-false}
 use lib.ListN.{length, set}
 use lib.Ieee.{Float}
 use Rattle.laws.specs.Filled.{filled, fill-none, fill-more, fill-all, length-filled}
+use Rattle.verdict.specs.Numbers.{badAttenuation}
 use Rattle.verdict.specs.declared.Refusal.the-variants.{Plain}
 use Rattle.verdict.specs.declared.Verdict.the-variants as Verdict
 use Rattle.win_sampled.specs.declared.shape.Shape.{Shape}
@@ -43,7 +44,7 @@ module _ {A : Type 0} {code : Float → A} {shape : Shape} {before : List A} whe
           record { answer = rw takes; buffer = f .stands ∙ fill-all i (elementAt code shape i0 d) before l ∙ sym (rw (takes, ← n, ← e, ← end)) }
 
   -- at a refusal, the test having told that the shape isn't taken
-  pub fill-refused : {symmetry : Symmetry} {taken : Bool} → taken ≡ shapeTaken shape → not taken ≡ true → FillsWindow code shape symmetry before (Verdict.Refused (Plain 4)) before
+  pub fill-refused : {symmetry : Symmetry} {taken : Bool} → taken ≡ shapeTaken shape → not taken ≡ true → FillsWindow code shape symmetry before (Verdict.Refused (Plain badAttenuation)) before
   fill-refused {taken = taken} r t =
       let refuses : shapeTaken shape ≡ false = sym r ∙ not-true taken t in
       record { answer = rw refuses; buffer = rw refuses }

@@ -11,6 +11,7 @@ use lib.Ieee.Scale.{finite}
 use Rattle.laws.specs.Binary64.{whole}
 use Rattle.laws.specs.Filled.{tabulate}
 use Rattle.math_bessel.specs.Series.{seriesOf}
+use Rattle.verdict.specs.Numbers.{badAttenuation}
 use Rattle.verdict.specs.declared.Refusal.the-variants.{Plain}
 use Rattle.win_shapes.specs.Windows.{angle, hannAt, harrisAt, kaiserAt}
 use Rattle.verdict.specs.declared.Verdict.{Verdict}
@@ -55,5 +56,5 @@ windowAt shape symmetry n i = sampleAt shape (normOf shape) (divisorOf symmetry 
 
 -- what the answer and the buffer are afterwards, each sample through `code`; 4 comes for an empty buffer too
 pub record FillsWindow {A : Type 0} (code : Float → A) (shape : Shape) (symmetry : Symmetry) (before : List A) (r : Verdict) (after : List A) : Type 0 where
-  pub answer : r ≡ cond (shapeTaken shape) Verdict.Done (Verdict.Refused (Plain 4))
+  pub answer : r ≡ cond (shapeTaken shape) Verdict.Done (Verdict.Refused (Plain badAttenuation))
   pub buffer : after ≡ cond (shapeTaken shape) (tabulate (length before) (λ i. code (windowAt shape symmetry (length before) i))) before

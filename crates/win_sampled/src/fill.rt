@@ -5,6 +5,7 @@ use super::shape::divisor;
 use super::shape::norm;
 use super::shape::sample_at;
 use super::shape::takes_shape;
+use verdict::BAD_ATTENUATION;
 use verdict::Refusal;
 use verdict::Verdict;
 ghost use Rattle.fmt_q15.specs.Q15.{q15Of};
@@ -16,7 +17,7 @@ pub fn fill_f32(shape: Shape, symmetry: Symmetry, out: &mut [f32]) -> Verdict
     ensures { λ r. ⌜ FillsWindow singleOf shape symmetry (now (out .entry)) r (now (out .exit)) ⌝ }
 {
     if !takes_shape(shape) {
-        return Verdict::Refused(Refusal::Plain(4));
+        return Verdict::Refused(Refusal::Plain(BAD_ATTENUATION));
     }
     let n = out.len();
     let i0 = norm(shape);
@@ -32,7 +33,7 @@ pub fn fill_q15(shape: Shape, symmetry: Symmetry, out: &mut [i16]) -> Verdict
     ensures { λ r. ⌜ FillsWindow q15Of shape symmetry (now (out .entry)) r (now (out .exit)) ⌝ }
 {
     if !takes_shape(shape) {
-        return Verdict::Refused(Refusal::Plain(4));
+        return Verdict::Refused(Refusal::Plain(BAD_ATTENUATION));
     }
     let n = out.len();
     let i0 = norm(shape);

@@ -1,0 +1,49 @@
+-- The refusals' numbers by name. Definitions only. A new number is a line here, one in the code and one in the header.
+use Prim.Native.Nat.{ℕ}
+
+-- ---- caused by the ticket's author
+-- the rate
+abbrev pub badRate : ℕ
+badRate = 1
+
+-- the cutoff, the centre or a band edge
+abbrev pub badFrequency : ℕ
+badFrequency = 2
+
+-- the transition, or a length past 2^24 taps
+abbrev pub badTransition : ℕ
+badTransition = 3
+
+-- the attenuation or beta
+abbrev pub badAttenuation : ℕ
+badAttenuation = 4
+
+-- the bandwidth bt, the roll-off, the quality q or the time constant
+abbrev pub badShape : ℕ
+badShape = 5
+
+-- a count: taps, order, span, samples, channels or branch
+abbrev pub badCount : ℕ
+badCount = 6
+
+-- an unknown code, or a response that a Butterworth filter hasn't
+abbrev pub badCode : ℕ
+badCode = 7
+
+-- ---- caused by the host program
+-- the buffer's length
+abbrev pub badLength : ℕ
+badLength = 8
+
+-- more taps than the cap
+abbrev pub tooManyTaps : ℕ
+tooManyTaps = 9
+
+-- ---- caused by arithmetic
+-- the sum that the taps are divided by is 0 or not finite
+abbrev pub badSum : ℕ
+badSum = 10
+
+-- an element that Q15 or Q14 can't take
+abbrev pub badElement : ℕ
+badElement = 11
