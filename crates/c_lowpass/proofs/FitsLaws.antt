@@ -5,10 +5,10 @@ use Prim.Native.Nat.{ℕ}
 use lib.Ieee.{Float}
 use Rattle.wire.specs.Writes.{Room}
 use Rattle.fir_lowpass.specs.Lowpass.{outcomeOf}
-use Rattle.fir_lowpass.specs.Kept.{Prepares}
+use Rattle.fir_lowpass.specs.Cached.{PreparesLowpass}
 use Rattle.fir_lowpass.specs.declared.lowpass.Designed.{Designed}
 use Rattle.fir_lowpass.specs.declared.lowpass.Prepared.{Prepared}
 use Rattle.c_lowpass.specs.Sources.{FitsLowpass}
 
-pub fits-lowpass : (len : ℕ) {rs : List Float} {d : Designed} {p : Prepared} → Prepares d p rs → Room len (outcomeOf d) → FitsLowpass p rs len
+pub fits-lowpass : (len : ℕ) {rs : List Float} {d : Designed} {p : Prepared} → PreparesLowpass d p rs → Room len (outcomeOf d) → FitsLowpass p rs len
 fits-lowpass len h m = record { normed = h .kept; raws = h .raws; room = subst (λ (z : Designed). Room len (outcomeOf z)) (sym (h .is)) m }

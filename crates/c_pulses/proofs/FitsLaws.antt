@@ -12,8 +12,8 @@ use Rattle.wire.specs.Writes.{Room}
 use Rattle.c_pulses.specs.Sources.{FitsHalfband, FitsGaussian}
 
 module _ (len : ℕ) {rs : List Float} where
-  pub fits-halfband : {d : HalfbandDesigned} {p : HalfbandPrepared} → Halfband.Prepares d p rs → Room len (Halfband.outcomeOf d) → FitsHalfband p rs len
+  pub fits-halfband : {d : HalfbandDesigned} {p : HalfbandPrepared} → Halfband.PreparesHalfband d p rs → Room len (Halfband.outcomeOf d) → FitsHalfband p rs len
   fits-halfband h m = record { normed = h .kept; raws = h .raws; room = subst (λ (z : HalfbandDesigned). Room len (Halfband.outcomeOf z)) (sym (h .is)) m }
 
-  pub fits-gaussian : {d r : GaussianDesigned} → Gaussian.Prepares d r rs → Room len (Gaussian.outcomeOf d) → FitsGaussian r rs len
+  pub fits-gaussian : {d r : GaussianDesigned} → Gaussian.PreparesGaussian d r rs → Room len (Gaussian.outcomeOf d) → FitsGaussian r rs len
   fits-gaussian h m = record { raws = h .raws; room = subst (λ (z : GaussianDesigned). Room len (Gaussian.outcomeOf z)) (sym (h .is)) m }

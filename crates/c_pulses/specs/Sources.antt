@@ -5,7 +5,7 @@ use mathlib.Core.List.{List}
 use lib.Ieee.{Float}
 use Rattle.verdict.specs.Outcome.{Outcome}
 use Rattle.fir_sinc.specs.Windows.{normOf}
-use Rattle.fir_lowpass.specs.Kept.{Keeps}
+use Rattle.fir_lowpass.specs.Cached.{Caches}
 use Rattle.fir_halfband.specs.Halfband as Halfband
 use Rattle.fir_halfband.specs.declared.HalfbandDesign.{HalfbandDesign}
 use Rattle.fir_halfband.specs.declared.HalfbandDesigned.{HalfbandDesigned}
@@ -32,9 +32,9 @@ ofRrc d = Rrc.outcomeOf d
 -- ---- what a writer needs of a design, where it is one: the series at its beta, a list that keeps its first raw taps, and a buffer of len bytes for its taps
 pub record FitsHalfband (p : HalfbandPrepared) (rs : List Float) (len : ℕ) : Type 0 where
   pub normed : (d : HalfbandDesign) → p .designed ≡ HalfbandDesigned.Ready d → p .i0 ≡ normOf (d .lp .window)
-  pub raws : (d : HalfbandDesign) → p .designed ≡ HalfbandDesigned.Ready d → Keeps (d .lp) (p .i0) rs
+  pub raws : (d : HalfbandDesign) → p .designed ≡ HalfbandDesigned.Ready d → Caches (d .lp) (p .i0) rs
   pub room : Room len (ofHalfband (p .designed))
 
 pub record FitsGaussian (d : GaussianDesigned) (rs : List Float) (len : ℕ) : Type 0 where
-  pub raws : (g : Gaussian) → d ≡ GaussianDesigned.Ready g → Gaussian.Keeps g rs
+  pub raws : (g : Gaussian) → d ≡ GaussianDesigned.Ready g → Gaussian.Caches g rs
   pub room : Room len (ofGaussian d)

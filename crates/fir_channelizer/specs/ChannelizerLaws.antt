@@ -20,7 +20,7 @@ use Rattle.verdict.specs.declared.Length.{Length}
 use Rattle.verdict.specs.declared.Length.the-variants as Length
 use Rattle.fir_lowpass.specs.Lowpass.{lowpassOf, outcomeOf}
 use Rattle.fir_lowpass.specs.LowpassLaws.{never, prepares-as, prepares-refusal}
-use Rattle.fir_lowpass.specs.Kept.{Prepares}
+use Rattle.fir_lowpass.specs.Cached.{PreparesLowpass}
 use Rattle.fir_sinc.specs.declared.window.Window.the-variants.{Kaiser}
 use Rattle.fir_lowpass.specs.declared.lowpass.Lowpass.{Lowpass}
 use Rattle.fir_lowpass.specs.declared.lowpass.Designed.{Designed}
@@ -29,7 +29,7 @@ use Rattle.fir_lowpass.specs.declared.lowpass.Prepared.{Prepared}
 use Rattle.fir_channelizer.specs.Channelizer.{channelsTaken, branchTaken, edgesOf, tapsIn, channelizerTapsOf, lowpassIn, channelizerLowpassOf, fittedOf}
 use Rattle.verdict.specs.declared.Verdict.{Verdict}
 use Rattle.verdict.specs.declared.Verdict.the-variants as Verdict
-use Rattle.verdict.specs.Counted.{Counted, where-equal}
+use Rattle.verdict.specs.Counted.{Counted, where-equal, fitted}
 
 -- ---- the numbers that are taken
 -- a number of channels: 4 to 256
@@ -121,11 +121,11 @@ module _ (n m : ℕ) (h : 4 ≤ m) where
       omega arith
 
 -- ---- a refusal, as an answer
-pub refuses : (d : Designed) (r : Prepared) (rs : List Float) (why : Refusal) → r .designed ≡ Designed.Refused why → d ≡ Designed.Refused why → Prepares d r rs
-refuses d r rs why e h = subst (λ (z : Designed). Prepares d (record { designed = z; i0 = r .i0 }) rs) (sym e) (prepares-refusal d why (r .i0) rs h)
+pub refuses : (d : Designed) (r : Prepared) (rs : List Float) (why : Refusal) → r .designed ≡ Designed.Refused why → d ≡ Designed.Refused why → PreparesLowpass d r rs
+refuses d r rs why e h = subst (λ (z : Designed). PreparesLowpass d (record { designed = z; i0 = r .i0 }) rs) (sym e) (prepares-refusal d why (r .i0) rs h)
 
 -- ---- for a buffer of len elements
-pub fits-as : {d : Designed} {r : Prepared} {rs : List Float} {l : Lowpass} {len : ℕ} → r .designed ≡ Designed.Ready l → l .n ≡ len → Prepares d r rs → Prepares (fittedOf d len) r rs
+pub fits-as : {d : Designed} {r : Prepared} {rs : List Float} {l : Lowpass} {len : ℕ} → r .designed ≡ Designed.Ready l → l .n ≡ len → PreparesLowpass d r rs → PreparesLowpass (fittedOf d len) r rs
 fits-as {d} {r} {rs} {l} {len} e h f =
     let g : d ≡ Designed.Ready l = sym (f .is) ∙ e in
     prepares-as (g ∙ sym (ap (λ (z : Designed). fittedOf z len) g ∙ rw (eq-eqb (l .n) len h))) f
@@ -144,11 +144,10 @@ accepted m l passband stopband a d e = go (channelsTaken m) (branchTaken l) (edg
 -- and one for a buffer: the design is accepted without the buffer too, and has as many taps as that has elements
 fitted-is : (g : Designed) (len : ℕ) (d : Lowpass) → fittedOf g len ≡ Designed.Ready d → (g ≡ Designed.Ready d) × (d .n ≡ len)
 fitted-is (Designed.Refused why) len d e = absurd (never why d e)
-fitted-is (Designed.Ready g) len d e = go (eqb (g .n) len) (eqb-true (g .n) len) e
+fitted-is (Designed.Ready g) len d e = fitted Designed.Ready (λ (l : Lowpass). l .n) (Designed.Refused (Refusal.Length (g .n) len)) len g d same (never (Refusal.Length (g .n) len) d) e
   where
-    go : (b : Bool) → (b ≡ true → g .n ≡ len) → cond b (Designed.Ready g) (Designed.Refused (Refusal.Length (g .n) len)) ≡ Designed.Ready d → (Designed.Ready g ≡ Designed.Ready d) × (d .n ≡ len)
-    go true k e = let s : g ≡ d = cc in (e, ap (λ (z : Lowpass). z .n) (sym s) ∙ k refl)
-    go false k e = absurd (never (Refusal.Length (g .n) len) d e)
+    same : (x y : Lowpass) → Designed.Ready x ≡ Designed.Ready y → x ≡ y
+    same x y e = cc
 
 pub record Fitted (m l : ℕ) (passband stopband a : Float) (len : ℕ) (d : Lowpass) : Type 0 where
   pub is : lowpassOf ((passband ⊕ stopband) ⊘ (whole 2 ⊗ whole m)) (whole 1) (Kaiser (betaOf a)) (m * l) ≡ Designed.Ready d

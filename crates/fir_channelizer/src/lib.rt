@@ -13,7 +13,7 @@ ghost use mathlib.Core.Path.{_≡_};
 ghost use lib.ListN.{length};
 ghost use Rattle.verdict.specs.Outcome.{Fills};
 ghost use Rattle.fir_lowpass.specs.Lowpass.{outcomeOf};
-ghost use Rattle.fir_lowpass.specs.Kept.{Prepares};
+ghost use Rattle.fir_lowpass.specs.Cached.{PreparesLowpass};
 ghost use Rattle.fir_channelizer.specs.Channelizer.{channelsTaken, branchTaken, stopTaken, attenuationTaken, edgesOf, countTaken, channelizerTapsOf, branchOf, channelizerLowpassOf, fittedOf};
 
 // Whether a channelizer has so many channels: a power of two from 4 to 256.
@@ -140,7 +140,7 @@ pub fn prepare(
     attenuation: f64,
     raws: &mut [f64],
 ) -> Prepared
-    ensures { λ r. ⌜ Prepares (channelizerLowpassOf channels branch passband stopband attenuation) r (now (raws .exit)) ⌝ }
+    ensures { λ r. ⌜ PreparesLowpass (channelizerLowpassOf channels branch passband stopband attenuation) r (now (raws .exit)) ⌝ }
 {
     if !takes_channels(channels) {
         return refused(Refusal::Plain(BAD_COUNT));
@@ -190,7 +190,7 @@ pub fn fitted(
     len: u64,
     raws: &mut [f64],
 ) -> Prepared
-    ensures { λ r. ⌜ Prepares (fittedOf (channelizerLowpassOf channels branch passband stopband attenuation) len) r (now (raws .exit)) ⌝ }
+    ensures { λ r. ⌜ PreparesLowpass (fittedOf (channelizerLowpassOf channels branch passband stopband attenuation) len) r (now (raws .exit)) ⌝ }
 {
     let p = prepare(
         channels,

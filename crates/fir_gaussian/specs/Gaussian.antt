@@ -11,7 +11,7 @@ use Rattle.laws.specs.Sums.{sumTo}
 use Rattle.math_exp.specs.Exp.{expOf}
 use Rattle.verdict.specs.Numbers.{badShape, badCount}
 use Rattle.verdict.specs.declared.Refusal.the-variants.{Range, Length}
-use Rattle.fir_cache.specs.Cached.{KeepsOf}
+use Rattle.fir_cache.specs.Cached.{CachesOf}
 use Rattle.verdict.specs.Outcome.{Outcome}
 use Rattle.verdict.specs.Outcome as Outcome
 use Rattle.fir_gaussian.specs.declared.gaussian_design.Gaussian.{Gaussian}
@@ -66,13 +66,13 @@ tapOf g i = cond (ltb 16777216 (g .n)) (whole 0) (cond (ltb i (g .n)) (rawAt (g 
 
 -- ---- what stays from the sum to the division
 -- a list keeps a design's first raw taps
-abbrev pub Keeps : Gaussian → List Float → Type 0
-Keeps g rs = KeepsOf (rawAt (g .a) (g .sps) (g .mid)) (g .n) rs
+abbrev pub Caches : Gaussian → List Float → Type 0
+Caches g rs = CachesOf (rawAt (g .a) (g .sps) (g .mid)) (g .n) rs
 
 -- an answer that is the design d, and a list that keeps its first raw taps
-pub record Prepares (d r : GaussianDesigned) (rs : List Float) : Type 0 where
+pub record PreparesGaussian (d r : GaussianDesigned) (rs : List Float) : Type 0 where
   pub is : r ≡ d
-  pub raws : (g : Gaussian) → r ≡ Ready g → Keeps g rs
+  pub raws : (g : Gaussian) → r ≡ Ready g → Caches g rs
 
 -- ---- what comes of a ticket
 abbrev pub outcomeOf : GaussianDesigned → Outcome

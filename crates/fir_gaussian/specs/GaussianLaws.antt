@@ -5,21 +5,21 @@ use mathlib.Core.List.{List}
 use Prim.Native.Nat.{ℕ, _+_, _-_, _*_, _/_, _≤_, _<_}
 use native.Mathlib.Nat.{le-trans, le-of-eq, mul-comm, le-div-iff-mul-le}
 use native.Mathlib.Omega.{arith}
-use borrow.Author.Tests.{leb-true, eqb-true, lt-ltb, le-ltb}
-use lib.Dec.{leb, eqb}
+use borrow.Author.Tests.{leb-true, lt-ltb, le-ltb}
+use lib.Dec.{leb}
 use lib.ListN.{length, getD}
 use lib.Ieee.{Float, nan}
 use Rattle.laws.specs.Binary64.{_⊘_, whole, fraction}
 use Rattle.laws.specs.Tests.{both}
-use Rattle.fir_cache.specs.Cached.{Totals}
+use Rattle.fir_cache.specs.Cached.{SumCached}
 use Rattle.verdict.specs.Numbers.{badShape, badCount}
 use Rattle.verdict.specs.declared.Refusal.{Refusal}
 use Rattle.verdict.specs.declared.Refusal.the-variants.{Range, Length}
-use Rattle.fir_gaussian.specs.Gaussian.{exponent, rawAt, btTaken, spanTaken, samplesTaken, madeOf, gaussianOf, fittedOf, tapOf, Keeps, Prepares, outcomeOf}
+use Rattle.fir_gaussian.specs.Gaussian.{exponent, rawAt, btTaken, spanTaken, samplesTaken, madeOf, gaussianOf, fittedOf, tapOf, Caches, PreparesGaussian, outcomeOf}
 use Rattle.fir_gaussian.specs.declared.gaussian_design.Gaussian.{Gaussian}
 use Rattle.fir_gaussian.specs.declared.gaussian_design.GaussianDesigned.{GaussianDesigned}
 use Rattle.fir_gaussian.specs.declared.gaussian_design.GaussianDesigned.the-variants.{Ready, Refused}
-use Rattle.verdict.specs.Counted.{Counted, where-equal}
+use Rattle.verdict.specs.Counted.{Counted, where-equal, fitted}
 
 -- ---- the numbers that are taken
 pub span-least : (span : ℕ) → spanTaken span ≡ true → 2 ≤ span
@@ -61,12 +61,12 @@ module _ (bt : Float) (sps span : ℕ) where
 never : (why : Refusal) (g : Gaussian) → Refused why ≡ Ready g → ⊥
 never why g e = let z : _≡_ {A = ℕ} 0 1 = cc in omega arith
 
-pub record Accepted (bt : Float) (sps span : ℕ) (g : Gaussian) : Type 0 where
+pub record AcceptedGaussian (bt : Float) (sps span : ℕ) (g : Gaussian) : Type 0 where
   pub is : g ≡ madeOf bt sps (span * sps + 1)
   pub some : 0 < span * sps + 1
   pub most : span * sps + 1 ≤ 16777216
 
-pub accepted : (bt : Float) (sps span : ℕ) (g : Gaussian) → gaussianOf bt sps span ≡ Ready g → Accepted bt sps span g
+pub accepted : (bt : Float) (sps span : ℕ) (g : Gaussian) → gaussianOf bt sps span ≡ Ready g → AcceptedGaussian bt sps span g
 unfolding gaussianOf
 accepted bt sps span g e = go (btTaken bt) (spanTaken span) (samplesTaken sps (16777215 / span)) (product-most span sps) e
   where
@@ -75,47 +75,43 @@ accepted bt sps span g e = go (btTaken bt) (spanTaken span) (samplesTaken sps (1
 
     go : (a b c : Bool) → (b ≡ true → c ≡ true → span * sps ≤ 16777215)
         → cond a (cond b (cond c (Ready (madeOf bt sps (span * sps + 1))) (Refused (Range badCount (whole 2) (whole (16777215 / span)) (whole sps)))) (Refused (Range badCount (whole 2) (whole 8) (whole span)))) (Refused (Range badShape (fraction 2 10) (whole 1) bt)) ≡ Ready g
-        → Accepted bt sps span g
+        → AcceptedGaussian bt sps span g
     go true true true k e = let t = few (span * sps) (k refl refl) in record { is = cc; some = t .0; most = t .1 }
     go true true false k e = absurd (never (Range badCount (whole 2) (whole (16777215 / span)) (whole sps)) g e)
     go true false c k e = absurd (never (Range badCount (whole 2) (whole 8) (whole span)) g e)
     go false b c k e = absurd (never (Range badShape (fraction 2 10) (whole 1) bt) g e)
 
+same-record : (x y : Gaussian) → Ready x ≡ Ready y → x ≡ y
+same-record x y e = cc
+
 -- and one for a buffer: the design is accepted without the buffer too, and has as many taps as that has elements
 pub fitted-is : (d : GaussianDesigned) (len : ℕ) (g : Gaussian) → fittedOf d len ≡ Ready g → (d ≡ Ready g) × (g .n ≡ len)
 fitted-is (Refused why) len g e = absurd (never why g e)
-fitted-is (Ready d) len g e = go (eqb (d .n) len) (eqb-true (d .n) len) e
-  where
-    go : (b : Bool) → (b ≡ true → d .n ≡ len) → cond b (Ready d) (Refused (Length (d .n) len)) ≡ Ready g → (Ready d ≡ Ready g) × (g .n ≡ len)
-    go true k e = let s : d ≡ g = cc in (e, ap (λ (z : Gaussian). z .n) (sym s) ∙ k refl)
-    go false k e = absurd (never (Length (d .n) len) g e)
+fitted-is (Ready d) len g e = fitted Ready (λ (x : Gaussian). x .n) (Refused (Length (d .n) len)) len d g same-record (never (Length (d .n) len) g) e
 
 -- ---- answers with what was kept
-pub refuses : (d : GaussianDesigned) (rs : List Float) (why : Refusal) → d ≡ Refused why → Prepares d (Refused why) rs
+pub refuses : (d : GaussianDesigned) (rs : List Float) (why : Refusal) → d ≡ Refused why → PreparesGaussian d (Refused why) rs
 refuses d rs why h = record { is = sym h; raws = λ g e. absurd (never why g e) }
 
 pub accepts : (bt : Float) (sps n : ℕ) (s : Float) (rs : List Float) (d : GaussianDesigned) → d ≡ Ready (madeOf bt sps n)
-    → Totals (rawAt (exponent bt) (whole sps) (whole (n - 1) ⊘ whole 2)) n s rs
-    → Prepares d (Ready (record { a = exponent bt; sps = whole sps; mid = whole (n - 1) ⊘ whole 2; n = n; sum = s })) rs
+    → SumCached (rawAt (exponent bt) (whole sps) (whole (n - 1) ⊘ whole 2)) n s rs
+    → PreparesGaussian d (Ready (record { a = exponent bt; sps = whole sps; mid = whole (n - 1) ⊘ whole 2; n = n; sum = s })) rs
 unfolding madeOf
 accepts bt sps n s rs d h t =
     let made : Float → Gaussian = λ z. record { a = exponent bt; sps = whole sps; mid = whole (n - 1) ⊘ whole 2; n = n; sum = z } in
     record {
       is = ap (λ (z : Float). Ready (record { a = exponent bt; sps = whole sps; mid = whole (n - 1) ⊘ whole 2; n = n; sum = z })) (t .is) ∙ sym h;
-      raws = λ g e. subst (λ (z : Gaussian). Keeps z rs) (same-record (made s) g e) (t .keeps);
+      raws = λ g e. subst (λ (z : Gaussian). Caches z rs) (same-record (made s) g e) (t .keeps);
     }
-  where
-    same-record : (x y : Gaussian) → Ready x ≡ Ready y → x ≡ y
-    same-record x y e = cc
 
 -- a design that was prepared, by another name
-pub keeps-as : (d e : GaussianDesigned) (g : Gaussian) {r : GaussianDesigned} {rs : List Float} → Prepares d r rs → r ≡ Ready g → e ≡ Ready g → Prepares e (Ready g) rs
+pub keeps-as : (d e : GaussianDesigned) (g : Gaussian) {r : GaussianDesigned} {rs : List Float} → PreparesGaussian d r rs → r ≡ Ready g → e ≡ Ready g → PreparesGaussian e (Ready g) rs
 keeps-as d e g {r} p h k = record { is = sym k; raws = λ x q. p .raws x (h ∙ q) }
 
 -- a tap from a raw tap that was kept
-pub kept-is : (g : Gaussian) (rs : List Float) (i : ℕ) → g .n ≤ 16777216 → i < g .n → i < length rs → Keeps g rs → getD rs i nan ⊘ g .sum ≡ tapOf g i
+pub cached-is : (g : Gaussian) (rs : List Float) (i : ℕ) → g .n ≤ 16777216 → i < g .n → i < length rs → Caches g rs → getD rs i nan ⊘ g .sum ≡ tapOf g i
 unfolding tapOf
-kept-is g rs i h b m k = ap (λ (z : Float). z ⊘ g .sum) (k i b m) ∙ sym (rw (le-ltb 16777216 (g .n) h, lt-ltb i (g .n) b))
+cached-is g rs i h b m k = ap (λ (z : Float). z ⊘ g .sum) (k i b m) ∙ sym (rw (le-ltb 16777216 (g .n) h, lt-ltb i (g .n) b))
 
 -- ---- an accepted pulse has as many taps as its buffer has elements
 pub gaussian-count : (d : GaussianDesigned) (len : ℕ) → Counted len (outcomeOf (fittedOf d len))

@@ -7,8 +7,8 @@ use verdict::BAD_SHAPE;
 use verdict::Refusal;
 ghost use mathlib.Core.Path.{_≡_};
 ghost use Prim.Native.Nat.{_^_, _<_, _≤_};
-ghost use Rattle.fir_cache.specs.Cached.{Totals};
-ghost use Rattle.fir_gaussian.specs.Gaussian.{btTaken, spanTaken, samplesTaken, rawAt, gaussianOf, fittedOf, tapOf, Keeps, Prepares};
+ghost use Rattle.fir_cache.specs.Cached.{SumCached};
+ghost use Rattle.fir_gaussian.specs.Gaussian.{btTaken, spanTaken, samplesTaken, rawAt, gaussianOf, fittedOf, tapOf, Caches, PreparesGaussian};
 
 const LN_2: f64 = 0.6931471805599453;
 
@@ -60,7 +60,7 @@ fn raw_at(a: f64, sps: f64, mid: f64, i: u64) -> f64
 // The sum of the raw taps, by rising index from +0. As many of them as `raws` has places are kept there, so that they needn't be worked out again.
 fn total(a: f64, sps: f64, mid: f64, n: u64, raws: &mut [f64]) -> f64
     requires { ⌜ n ≤ 2 ^ 24 ⌝ }
-    ensures { λ r. ⌜ Totals (rawAt a sps mid) n r (now (raws .exit)) ⌝ }
+    ensures { λ r. ⌜ SumCached (rawAt a sps mid) n r (now (raws .exit)) ⌝ }
 {
     let mut sum = 0.0;
     let mut i = 0u64;
@@ -76,7 +76,7 @@ fn total(a: f64, sps: f64, mid: f64, n: u64, raws: &mut [f64]) -> f64
 // The design for a bandwidth bt of the symbol rate, sps samples a symbol and a span of so many symbols: span sps + 1 taps. Refused, in this order: 5 with 0.2, 1, bt; 6 with 2, 8, span; 6 with 2, (2^24 − 1)/span rounded down, sps. The span is tested before the samples, so that no product can overflow.
 // The first raw taps are left in `raws`, as many as it has places.
 pub fn prepare(bt: f64, sps: u64, span: u64, raws: &mut [f64]) -> GaussianDesigned
-    ensures { λ r. ⌜ Prepares (gaussianOf bt sps span) r (now (raws .exit)) ⌝ }
+    ensures { λ r. ⌜ PreparesGaussian (gaussianOf bt sps span) r (now (raws .exit)) ⌝ }
 {
     if !takes_bt(bt) {
         return GaussianDesigned::Refused(Refusal::Range(BAD_SHAPE, 0.2, 1.0, bt));
@@ -145,8 +145,8 @@ impl Gaussian {
 }
 
 // The same from a list that keeps the design's first raw taps, which are taken from there.
-pub fn kept_tap(g: Gaussian, raws: &[f64], i: u64) -> f64
-    ensures { λ r. ⌜ (Keeps g (now (raws .entry)) → r ≡ tapOf g i) ⌝ }
+pub fn cached_tap(g: Gaussian, raws: &[f64], i: u64) -> f64
+    ensures { λ r. ⌜ (Caches g (now (raws .entry)) → r ≡ tapOf g i) ⌝ }
 {
     let n = g.n;
     let k = i as usize;
@@ -163,7 +163,7 @@ pub fn kept_tap(g: Gaussian, raws: &[f64], i: u64) -> f64
 // The design for a buffer of `len` elements: refused as `prepare`, then 8 where the taps are not `len`.
 // The first raw taps are left in `raws`, as many as it has places.
 pub fn fitted(bt: f64, sps: u64, span: u64, len: u64, raws: &mut [f64]) -> GaussianDesigned
-    ensures { λ r. ⌜ Prepares (fittedOf (gaussianOf bt sps span) len) r (now (raws .exit)) ⌝ }
+    ensures { λ r. ⌜ PreparesGaussian (fittedOf (gaussianOf bt sps span) len) r (now (raws .exit)) ⌝ }
 {
     let designed = prepare(bt, sps, span, &mut *raws);
     match designed {

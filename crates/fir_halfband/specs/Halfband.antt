@@ -15,7 +15,7 @@ use Rattle.verdict.specs.Outcome.{Outcome}
 use Rattle.verdict.specs.Outcome as Outcome
 use Rattle.fir_sinc.specs.Windows.{normOf}
 use Rattle.fir_lowpass.specs.Lowpass as Lowpass
-use Rattle.fir_lowpass.specs.Kept.{Keeps}
+use Rattle.fir_lowpass.specs.Cached.{Caches}
 use Rattle.fir_sinc.specs.declared.window.Window.the-variants.{Kaiser}
 use Rattle.fir_lowpass.specs.declared.lowpass.Lowpass.{Lowpass}
 use Rattle.fir_lowpass.specs.declared.lowpass.Designed.{Designed}
@@ -77,10 +77,10 @@ unfolding tapWith
 tapOf d k = tapWith d (normOf (d .lp .window)) k
 
 -- an answer that is the design d and, where it is one, the series at its beta, and a list that keeps the low-pass's first raw taps
-pub record Prepares (d : HalfbandDesigned) (r : HalfbandPrepared) (rs : List Float) : Type 0 where
+pub record PreparesHalfband (d : HalfbandDesigned) (r : HalfbandPrepared) (rs : List Float) : Type 0 where
   pub is : r .designed ≡ d
   pub kept : (h : HalfbandDesign) → r .designed ≡ Ready h → r .i0 ≡ normOf (h .lp .window)
-  pub raws : (h : HalfbandDesign) → r .designed ≡ Ready h → Keeps (h .lp) (r .i0) rs
+  pub raws : (h : HalfbandDesign) → r .designed ≡ Ready h → Caches (h .lp) (r .i0) rs
 
 -- what comes of a ticket
 abbrev pub outcomeOf : HalfbandDesigned → Outcome

@@ -12,11 +12,11 @@ use Rattle.verdict.specs.declared.Refusal.{Refusal}
 use Rattle.verdict.specs.declared.Refusal.the-variants.{Plain}
 use Rattle.fir_sinc.specs.Windows.{normOf}
 use Rattle.fir_lowpass.specs.Lowpass.{usable}
-use Rattle.fir_lowpass.specs.Kept.{Keeps}
+use Rattle.fir_lowpass.specs.Cached.{Caches}
 use Rattle.fir_lowpass.specs.declared.lowpass.Lowpass.{Lowpass}
 use Rattle.fir_lowpass.specs.declared.lowpass.Designed.{Designed}
 use Rattle.fir_lowpass.specs.declared.lowpass.Designed.the-variants as Designed
-use Rattle.fir_halfband.specs.Halfband.{lengthTaken, quarterOf, unscaled, divisorOf, halfbandIn, halfbandOf, tapOf, Prepares, outcomeOf}
+use Rattle.fir_halfband.specs.Halfband.{lengthTaken, quarterOf, unscaled, divisorOf, halfbandIn, halfbandOf, tapOf, PreparesHalfband, outcomeOf}
 use Rattle.fir_halfband.specs.declared.HalfbandDesign.{HalfbandDesign}
 use Rattle.fir_halfband.specs.declared.HalfbandDesigned.{HalfbandDesigned}
 use Rattle.fir_halfband.specs.declared.HalfbandDesigned.the-variants.{Ready, Refused}
@@ -61,37 +61,37 @@ module _ (beta : Float) (n : ℕ) where
   no-length a = rw a
 
   -- a refusal, as an answer
-  pub refuses : (r : HalfbandPrepared) (rs : List Float) (why : Refusal) → r .designed ≡ Refused why → halfbandOf beta n ≡ Refused why → Prepares (halfbandOf beta n) r rs
+  pub refuses : (r : HalfbandPrepared) (rs : List Float) (why : Refusal) → r .designed ≡ Refused why → halfbandOf beta n ≡ Refused why → PreparesHalfband (halfbandOf beta n) r rs
   refuses r rs why e h = record { is = e ∙ sym h; kept = λ d g. absurd (never why d (sym e ∙ g)); raws = λ d g. absurd (never why d (sym e ∙ g)) }
 
   -- a design, as an answer
-  pub accepts : (l : Lowpass) (s i0 : Float) (rs : List Float) → s ≡ divisorOf l n → i0 ≡ normOf (l .window) → Keeps l i0 rs → halfbandOf beta n ≡ Ready (halved l n)
-      → Prepares (halfbandOf beta n) (record { designed = Ready (record { lp = l; n = n; sum = s }); i0 = i0 }) rs
+  pub accepts : (l : Lowpass) (s i0 : Float) (rs : List Float) → s ≡ divisorOf l n → i0 ≡ normOf (l .window) → Caches l i0 rs → halfbandOf beta n ≡ Ready (halved l n)
+      → PreparesHalfband (halfbandOf beta n) (record { designed = Ready (record { lp = l; n = n; sum = s }); i0 = i0 }) rs
   accepts l s i0 rs e g k h =
       let r : HalfbandDesign = record { lp = l; n = n; sum = s } in
       record {
         is = ap (λ (z : Float). Ready (record { lp = l; n = n; sum = z })) e ∙ sym h;
         kept = λ d q. g ∙ ap (λ (z : HalfbandDesign). normOf (z .lp .window)) (same-record r d q);
-        raws = λ d q. subst (λ (z : HalfbandDesign). Keeps (z .lp) i0 rs) (same-record r d q) k;
+        raws = λ d q. subst (λ (z : HalfbandDesign). Caches (z .lp) i0 rs) (same-record r d q) k;
       }
 
 -- ---- what an accepted ticket tells
-pub record Accepted (beta : Float) (n : ℕ) (d : HalfbandDesign) : Type 0 where
+pub record AcceptedHalfband (beta : Float) (n : ℕ) (d : HalfbandDesign) : Type 0 where
   pub lowpass : Lowpass
   pub long : lengthTaken n ≡ true
   pub quarter : quarterOf beta n ≡ Designed.Ready lowpass
   pub divides : usable (divisorOf lowpass n) ≡ true
   pub is : d ≡ halved lowpass n
 
-pub accepted : (beta : Float) (n : ℕ) (d : HalfbandDesign) → halfbandOf beta n ≡ Ready d → Accepted beta n d
+pub accepted : (beta : Float) (n : ℕ) (d : HalfbandDesign) → halfbandOf beta n ≡ Ready d → AcceptedHalfband beta n d
 unfolding halfbandOf
 accepted beta n d e = go (lengthTaken n) (quarterOf beta n) refl refl e
   where
-    tested : (l : Lowpass) (c : Bool) → lengthTaken n ≡ true → quarterOf beta n ≡ Designed.Ready l → usable (divisorOf l n) ≡ c → cond c (Ready (halved l n)) (Refused (Plain badSum)) ≡ Ready d → Accepted beta n d
+    tested : (l : Lowpass) (c : Bool) → lengthTaken n ≡ true → quarterOf beta n ≡ Designed.Ready l → usable (divisorOf l n) ≡ c → cond c (Ready (halved l n)) (Refused (Plain badSum)) ≡ Ready d → AcceptedHalfband beta n d
     tested l true a b c e = record { lowpass = l; long = a; quarter = b; divides = c; is = sym (same-record (halved l n) d e) }
     tested l false a b c e = absurd (never (Plain badSum) d e)
 
-    go : (a : Bool) (q : Designed) → lengthTaken n ≡ a → quarterOf beta n ≡ q → cond a (halfbandIn n q) (Refused (Plain badCount)) ≡ Ready d → Accepted beta n d
+    go : (a : Bool) (q : Designed) → lengthTaken n ≡ a → quarterOf beta n ≡ q → cond a (halfbandIn n q) (Refused (Plain badCount)) ≡ Ready d → AcceptedHalfband beta n d
     go true (Designed.Ready l) a b e = tested l (usable (divisorOf l n)) a b refl e
     go true (Designed.Refused why) a b e = absurd (never why d e)
     go false q a b e = absurd (never (Plain badCount) d e)

@@ -10,8 +10,8 @@ ghost use mathlib.Core.Path.{_≡_};
 ghost use Prim.Native.Nat.{_<_};
 ghost use lib.Ieee.{binary64};
 ghost use Rattle.laws.specs.Sums.{sumTo};
-ghost use Rattle.fir_lowpass.specs.Kept.{Keeps};
-ghost use Rattle.fir_halfband.specs.Halfband.{lengthTaken, vanishes, unscaledWith, halfbandOf, tapWith, tapOf, Prepares};
+ghost use Rattle.fir_lowpass.specs.Cached.{Caches};
+ghost use Rattle.fir_halfband.specs.Halfband.{lengthTaken, vanishes, unscaledWith, halfbandOf, tapWith, tapOf, PreparesHalfband};
 
 // A design: the low-pass that it is made from, how many taps, and the sum that they are divided by last.
 pub struct HalfbandDesign {
@@ -52,19 +52,19 @@ fn is_zero_at(n: u64, k: u64) -> bool
 // Tap k of n before the last division: zero, or the tap of the low-pass at k or at its mirror image, whichever comes first. `raws` keeps the first raw taps of the low-pass.
 fn unscaled(lp: Lowpass, i0: f64, raws: &[f64], n: u64, k: u64) -> f64
     requires { ⌜ k < n ⌝ }
-    ensures { λ r. ⌜ (Keeps lp i0 (now (raws .entry)) → r ≡ unscaledWith lp i0 n k) ⌝ }
+    ensures { λ r. ⌜ (Caches lp i0 (now (raws .entry)) → r ≡ unscaledWith lp i0 n k) ⌝ }
 {
     if is_zero_at(n, k) {
         return 0.0;
     }
     let across = n - 1 - k;
     let first = if k < across { k } else { across };
-    fir_lowpass::lowpass::kept_tap(lp, i0, raws, first)
+    fir_lowpass::lowpass::cached_tap(lp, i0, raws, first)
 }
 
 // The sum of the taps before the last division, by rising index from +0.
 fn total(lp: Lowpass, i0: f64, raws: &[f64], n: u64) -> f64
-    ensures { λ r. ⌜ (Keeps lp i0 (now (raws .entry)) → r ≡ sumTo binary64 (unscaledWith lp i0 n) n) ⌝ }
+    ensures { λ r. ⌜ (Caches lp i0 (now (raws .entry)) → r ≡ sumTo binary64 (unscaledWith lp i0 n) n) ⌝ }
 {
     let mut sum = 0.0;
     let mut k = 0u64;
@@ -88,7 +88,7 @@ fn refused(why: Refusal) -> HalfbandPrepared
 // The design of a half-band of n taps with Kaiser's window, with the series at beta. Refused, in this order: 6 where n isn't 3 over a multiple of 4; as a low-pass of n taps with the cutoff at a quarter of the rate: 6, 4, 10; 10 where the sum of the taps is 0 or not finite.
 // The first raw taps are left in `raws`, as many as it has places.
 pub fn prepare(beta: f64, n: u64, raws: &mut [f64]) -> HalfbandPrepared
-    ensures { λ r. ⌜ Prepares (halfbandOf beta n) r (now (raws .exit)) ⌝ }
+    ensures { λ r. ⌜ PreparesHalfband (halfbandOf beta n) r (now (raws .exit)) ⌝ }
 {
     if !takes_length(n) {
         return refused(Refusal::Plain(BAD_COUNT));
@@ -115,8 +115,8 @@ pub fn prepare(beta: f64, n: u64, raws: &mut [f64]) -> HalfbandPrepared
 }
 
 // Tap k of a design, i0 being the series at its beta and `raws` keeping the first raw taps of its low-pass; 0 past the last tap.
-pub fn kept_tap(d: HalfbandDesign, i0: f64, raws: &[f64], k: u64) -> f64
-    ensures { λ r. ⌜ (Keeps (d .lp) i0 (now (raws .entry)) → r ≡ tapWith d i0 k) ⌝ }
+pub fn cached_tap(d: HalfbandDesign, i0: f64, raws: &[f64], k: u64) -> f64
+    ensures { λ r. ⌜ (Caches (d .lp) i0 (now (raws .entry)) → r ≡ tapWith d i0 k) ⌝ }
 {
     let n = d.n;
     if k < n {
@@ -151,6 +151,6 @@ impl HalfbandDesign {
         let none = [0.0f64; 0];
         let lp = self.lp;
         let w = lp.window;
-        kept_tap(self, fir_sinc::window::norm(w), &none, k)
+        cached_tap(self, fir_sinc::window::norm(w), &none, k)
     }
 }

@@ -9,7 +9,7 @@ ghost use mathlib.Core.Path.{_≡_};
 ghost use Prim.Native.Nat.{_+_, _%_};
 ghost use lib.Ieee.{toUnsigned};
 ghost use Rattle.math_round.specs.Whole.{ceilOf};
-ghost use Rattle.fir_length.specs.Kaiser.{estimate, oddUp, orderOf, halfbandUp, halfbandLenOf};
+ghost use Rattle.fir_length.specs.Kaiser.{estimate, oddUp, orderOf, halfbandLenOf};
 
 // How many taps, and beta; or why not.
 pub enum Order {

@@ -1,4 +1,4 @@
 pub mod Lowpass
-pub mod Kept
-pub mod KeptLaws
+pub mod Cached
+pub mod CachedLaws
 pub mod LowpassLaws

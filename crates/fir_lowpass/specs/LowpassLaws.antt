@@ -19,9 +19,9 @@ use Rattle.verdict.specs.Outcome.{Fills}
 use Rattle.verdict.specs.OutcomeLaws as Outcome
 use Rattle.fir_sinc.specs.Windows.{normOf}
 use Rattle.fir_sinc.specs.Taps.{rawAt}
-use Rattle.fir_cache.specs.Cached.{KeepsOf}
+use Rattle.fir_cache.specs.Cached.{CachesOf}
 use Rattle.fir_lowpass.specs.Lowpass.{divisorOf, inside, countTaken, betaTaken, usable, lowpassOf, tapWith, tapOf, tapsOf, outcomeOf}
-use Rattle.fir_lowpass.specs.Kept.{Keeps, Prepares}
+use Rattle.fir_lowpass.specs.Cached.{Caches, PreparesLowpass}
 use Rattle.fir_sinc.specs.declared.window.Window.{Window}
 use Rattle.fir_lowpass.specs.declared.lowpass.Lowpass.{Lowpass}
 use Rattle.fir_lowpass.specs.declared.lowpass.Designed.{Designed}
@@ -76,29 +76,29 @@ module _ (cutoff rate : Float) (w : Window) (n : ℕ) where
   no-rate a = rw a
 
   -- a refusal, as an answer
-  pub refuses : (r : Prepared) (rs : List Float) (why : Refusal) → r .designed ≡ Refused why → lowpassOf cutoff rate w n ≡ Refused why → Prepares (lowpassOf cutoff rate w n) r rs
+  pub refuses : (r : Prepared) (rs : List Float) (why : Refusal) → r .designed ≡ Refused why → lowpassOf cutoff rate w n ≡ Refused why → PreparesLowpass (lowpassOf cutoff rate w n) r rs
   refuses r rs why e h = record { is = e ∙ sym h; kept = λ l g. absurd (never why l (sym e ∙ g)); raws = λ l g. absurd (never why l (sym e ∙ g)) }
 
   -- a design, as an answer
   same-record : (l m : Lowpass) → Ready l ≡ Ready m → l ≡ m
   same-record l m e = cc
 
-  pub accepts : (s i0 : Float) (rs : List Float) → s ≡ divisorOf (cutoff ⊘ rate) w n → i0 ≡ normOf w → KeepsOf (rawAt (cutoff ⊘ rate) w i0 n) n rs → lowpassOf cutoff rate w n ≡ Ready (record { n = n; fc = cutoff ⊘ rate; window = w; sum = divisorOf (cutoff ⊘ rate) w n })
-      → Prepares (lowpassOf cutoff rate w n) (record { designed = Ready (record { n = n; fc = cutoff ⊘ rate; window = w; sum = s }); i0 = i0 }) rs
+  pub accepts : (s i0 : Float) (rs : List Float) → s ≡ divisorOf (cutoff ⊘ rate) w n → i0 ≡ normOf w → CachesOf (rawAt (cutoff ⊘ rate) w i0 n) n rs → lowpassOf cutoff rate w n ≡ Ready (record { n = n; fc = cutoff ⊘ rate; window = w; sum = divisorOf (cutoff ⊘ rate) w n })
+      → PreparesLowpass (lowpassOf cutoff rate w n) (record { designed = Ready (record { n = n; fc = cutoff ⊘ rate; window = w; sum = s }); i0 = i0 }) rs
   accepts s i0 rs e g k h =
       let r : Lowpass = record { n = n; fc = cutoff ⊘ rate; window = w; sum = s } in
       record {
         is = ap (λ (z : Float). Ready (record { n = n; fc = cutoff ⊘ rate; window = w; sum = z })) e ∙ sym h;
         kept = λ l q. g ∙ ap (λ (z : Lowpass). normOf (z .window)) (same-record r l q);
-        raws = λ l q. subst (λ (z : Lowpass). Keeps z i0 rs) (same-record r l q) k;
+        raws = λ l q. subst (λ (z : Lowpass). Caches z i0 rs) (same-record r l q) k;
       }
 
 -- ---- what an accepted ticket tells
-pub record Accepted (cutoff rate : Float) (w : Window) (n : ℕ) (l : Lowpass) : Type 0 where
+pub record AcceptedLowpass (cutoff rate : Float) (w : Window) (n : ℕ) (l : Lowpass) : Type 0 where
   pub counted : countTaken n ≡ true
   pub is : l ≡ record { n = n; fc = cutoff ⊘ rate; window = w; sum = divisorOf (cutoff ⊘ rate) w n }
 
-pub ready-is : (cutoff rate : Float) (w : Window) (n : ℕ) (l : Lowpass) → lowpassOf cutoff rate w n ≡ Ready l → Accepted cutoff rate w n l
+pub ready-is : (cutoff rate : Float) (w : Window) (n : ℕ) (l : Lowpass) → lowpassOf cutoff rate w n ≡ Ready l → AcceptedLowpass cutoff rate w n l
 unfolding lowpassOf
 ready-is cutoff rate w n l e = go (positive rate) (inside (cutoff ⊘ rate)) (countTaken n) (betaTaken w) (usable (divisorOf (cutoff ⊘ rate) w n)) (λ h. h) e
   where
@@ -107,7 +107,7 @@ ready-is cutoff rate w n l e = go (positive rate) (inside (cutoff ⊘ rate)) (co
 
     go : (a b c d f : Bool) → (c ≡ true → countTaken n ≡ true)
         → cond a (cond b (cond c (cond d (cond f (Ready r) (Refused (Plain badSum))) (Refused (Plain badAttenuation))) (Refused (Plain badCount))) (Refused (Range badFrequency (whole 0) (rate ⊘ whole 2) cutoff))) (Refused (Plain badRate)) ≡ Ready l
-        → Accepted cutoff rate w n l
+        → AcceptedLowpass cutoff rate w n l
     go true true true true true k e = record { counted = k refl; is = cc }
     go true true true true false k e = absurd (never (Plain badSum) l e)
     go true true true false f k e = absurd (never (Plain badAttenuation) l e)
@@ -128,10 +128,10 @@ module _ (g : Designed) (d : List Float) where
 pub fills-as : {d e : Designed} {b a : List Float} {r : Verdict} → d ≡ e → Fills (outcomeOf d) b r a → Fills (outcomeOf e) b r a
 fills-as p f = Outcome.fills-as (ap outcomeOf p) f
 
-pub prepares-as : {d e : Designed} {r : Prepared} {rs : List Float} → d ≡ e → Prepares d r rs → Prepares e r rs
-prepares-as {d} {e} {r} {rs} p f = subst (λ (z : Designed). Prepares z r rs) p f
+pub prepares-as : {d e : Designed} {r : Prepared} {rs : List Float} → d ≡ e → PreparesLowpass d r rs → PreparesLowpass e r rs
+prepares-as {d} {e} {r} {rs} p f = subst (λ (z : Designed). PreparesLowpass z r rs) p f
 
-pub prepares-refusal : (d : Designed) (why : Refusal) (i0 : Float) (rs : List Float) → d ≡ Refused why → Prepares d (record { designed = Refused why; i0 = i0 }) rs
+pub prepares-refusal : (d : Designed) (why : Refusal) (i0 : Float) (rs : List Float) → d ≡ Refused why → PreparesLowpass d (record { designed = Refused why; i0 = i0 }) rs
 prepares-refusal d why i0 rs e = record { is = sym e; kept = λ l g. absurd (never why l g); raws = λ l g. absurd (never why l g) }
 
 -- ---- an accepted design has as many taps as it was asked for

@@ -15,7 +15,7 @@ ghost use mathlib.Core.Path.{_≡_};
 ghost use lib.ListN.{length};
 ghost use Rattle.fir_lowpass.specs.Lowpass.{inside, countTaken, betaTaken, usable, lowpassOf, tapWith, tapOf, tapsOf, outcomeOf};
 ghost use Rattle.verdict.specs.Outcome.{Fills};
-ghost use Rattle.fir_lowpass.specs.Kept.{Keeps, Normed, Prepares};
+ghost use Rattle.fir_lowpass.specs.Cached.{Caches, Normed, PreparesLowpass};
 
 // A design: how many taps, the cutoff as a fraction of the rate, the window, and the sum that the taps are divided by.
 pub struct Lowpass {
@@ -83,7 +83,7 @@ fn refused(why: Refusal) -> Prepared
 // The design of a low-pass, with the series at beta. Refused, in this order: 1 a rate that isn't finite and positive; 2 with 0, rate/2, cutoff where cutoff/rate isn't between 0 and 1/2; 6 no taps or more than 2^24; 4 a beta that isn't finite and not negative; 10 a sum of the raw taps that is 0 or not finite.
 // The first raw taps are left in `raws`, as many as it has places.
 pub fn prepare(cutoff: f64, rate: f64, window: Window, n: u64, raws: &mut [f64]) -> Prepared
-    ensures { λ r. ⌜ Prepares (lowpassOf cutoff rate window n) r (now (raws .exit)) ⌝ }
+    ensures { λ r. ⌜ PreparesLowpass (lowpassOf cutoff rate window n) r (now (raws .exit)) ⌝ }
 {
     if !math_numbers::is_positive(rate) {
         return refused(Refusal::Plain(BAD_RATE));
@@ -131,8 +131,8 @@ pub fn tap_with(lp: Lowpass, i0: f64, i: u64) -> f64
 }
 
 // The same where `raws` keeps the design's first raw taps, which are taken from there.
-pub fn kept_tap(lp: Lowpass, i0: f64, raws: &[f64], i: u64) -> f64
-    ensures { λ r. ⌜ (Keeps lp i0 (now (raws .entry)) → r ≡ tapWith lp i0 i) ⌝ }
+pub fn cached_tap(lp: Lowpass, i0: f64, raws: &[f64], i: u64) -> f64
+    ensures { λ r. ⌜ (Caches lp i0 (now (raws .entry)) → r ≡ tapWith lp i0 i) ⌝ }
 {
     let n = lp.n;
     let k = i as usize;

@@ -2,4 +2,4 @@ pub mod Windows
 pub mod Taps
 pub mod StepLaws
 pub mod Mirrored
-pub mod Waiting
+pub mod Pending

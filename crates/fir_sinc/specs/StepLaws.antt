@@ -9,7 +9,7 @@ use Rattle.laws.specs.Binary64.{_⊗_, whole}
 use Rattle.fir_sinc.specs.declared.window.Window.{Window}
 use Rattle.fir_sinc.specs.declared.window.Window.the-variants.{Hann, Hamming, Blackman, Kaiser}
 use Rattle.fir_sinc.specs.Taps.{idealAt, rawAt}
-use Rattle.win_shapes.specs.Windows.{angle, hannAt, hammingAt, blackmanAt, kaiserValue, kaiserAt}
+use Rattle.win_shapes.specs.Windows.{hannAt, hammingAt, blackmanAt, kaiserValue, kaiserAt}
 use Rattle.win_shapes.specs.Steps.{argumentOf}
 use Rattle.win_shapes.specs.Steps as Steps
 use Rattle.win_shapes.specs.declared.curve.Curve.{Curve}

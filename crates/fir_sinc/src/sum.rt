@@ -20,9 +20,9 @@ ghost use Rattle.laws.specs.Binary64.{_⊕_, whole};
 ghost use Rattle.laws.specs.Sums.{sumTo};
 ghost use Rattle.fir_sinc.specs.Windows.{windowAt};
 ghost use Rattle.fir_sinc.specs.Taps.{sinc, idealAt, rawAt};
-ghost use Rattle.fir_cache.specs.Cached.{KeepsOf, Totals, Adds};
+ghost use Rattle.fir_cache.specs.Cached.{CachesOf, SumCached, Adds};
 ghost use Rattle.fir_sinc.specs.Mirrored.{IsMirrored};
-ghost use Rattle.fir_sinc.specs.Waiting.{Mirrors, Waits, Planned};
+ghost use Rattle.fir_sinc.specs.Pending.{Mirrors, PendingTap, Planned};
 
 // Takes raw tap i up in their sum, and keeps it where `raws` has its place.
 fn take(sum: f64, i: u64, v: f64, raws: &mut [f64]) -> f64
@@ -95,7 +95,7 @@ fn windows_at(w: Window, i0: f64, n: u64, i: u64, j: u64) -> Pair
     values_of(w, i0, x.first, x.second)
 }
 
-// Keeps raw tap i. The taps of a filter are mirror images, but their bits needn't be: where a place in the window is rounded otherwise on the other side, the last bits part. Where they are seen to be the same, as about three in four of Kaiser's taps are, the tap is that of its mirror image. Else it waits for another, or is worked out with the one that waits: two windows together cost little more than one. p is the one that waits, n where none does, and at its place `raws` has it without its window; the answer is p of the next tap.
+// Caches raw tap i. The taps of a filter are mirror images, but their bits needn't be: where a place in the window is rounded otherwise on the other side, the last bits part. Where they are seen to be the same, as about three in four of Kaiser's taps are, the tap is that of its mirror image. Else it waits for another, or is worked out with the one that waits: two windows together cost little more than one. p is the one that waits, n where none does, and at its place `raws` has it without its window; the answer is p of the next tap.
 fn keep_next(
     fc: f64,
     w: Window,
@@ -106,8 +106,8 @@ fn keep_next(
     i: u64,
     raws: &mut [f64],
 ) -> u64
-    requires { ⌜ n ≤ 2 ^ 24 ⌝ ∗ ⌜ i < n ⌝ ∗ ⌜ Waits (rawAt fc w i0 n) (idealAt fc n) n half p i (now raws) ⌝ }
-    ensures { λ r. ⌜ Waits (rawAt fc w i0 n) (idealAt fc n) n half r (i + 1) (now (raws .exit)) ⌝ }
+    requires { ⌜ n ≤ 2 ^ 24 ⌝ ∗ ⌜ i < n ⌝ ∗ ⌜ PendingTap (rawAt fc w i0 n) (idealAt fc n) n half p i (now raws) ⌝ }
+    ensures { λ r. ⌜ PendingTap (rawAt fc w i0 n) (idealAt fc n) n half r (i + 1) (now (raws .exit)) ⌝ }
 {
     let near = ideal_near(fc, n, half, i, &*raws);
     if near.same {
@@ -128,10 +128,10 @@ fn keep_next(
     }
 }
 
-// Keeps the raw taps from `from` on, where `raws` has a place for all and keeps those before.
+// Caches the raw taps from `from` on, where `raws` has a place for all and keeps those before.
 fn keep_rest(fc: f64, w: Window, i0: f64, n: u64, half: u64, from: u64, raws: &mut [f64])
-    requires { ⌜ n ≤ 2 ^ 24 ⌝ ∗ ⌜ from ≤ n ⌝ ∗ ⌜ Waits (rawAt fc w i0 n) (idealAt fc n) n half n from (now raws) ⌝ }
-    ensures { λ _. ⌜ KeepsOf (rawAt fc w i0 n) n (now (raws .exit)) ⌝ }
+    requires { ⌜ n ≤ 2 ^ 24 ⌝ ∗ ⌜ from ≤ n ⌝ ∗ ⌜ PendingTap (rawAt fc w i0 n) (idealAt fc n) n half n from (now raws) ⌝ }
+    ensures { λ _. ⌜ CachesOf (rawAt fc w i0 n) n (now (raws .exit)) ⌝ }
 {
     let mut p = n;
     let mut i = from;
@@ -159,7 +159,7 @@ fn sum_on(begun: f64, list: &[f64], from: u64, n: u64) -> f64
 }
 
 // The sum of n raw taps, from that of the first `from` of them, where `raws` has a place for all: there they are kept first.
-fn rest_kept(
+fn rest_cached(
     fc: f64,
     w: Window,
     i0: f64,
@@ -169,8 +169,8 @@ fn rest_kept(
     begun: f64,
     raws: &mut [f64],
 ) -> f64
-    requires { ⌜ n ≤ 2 ^ 24 ⌝ ∗ ⌜ from ≤ n ⌝ ∗ ⌜ begun ≡ sumTo binary64 (rawAt fc w i0 n) from ⌝ ∗ ⌜ Waits (rawAt fc w i0 n) (idealAt fc n) n half n from (now raws) ⌝ }
-    ensures { λ r. ⌜ Totals (rawAt fc w i0 n) n r (now (raws .exit)) ⌝ }
+    requires { ⌜ n ≤ 2 ^ 24 ⌝ ∗ ⌜ from ≤ n ⌝ ∗ ⌜ begun ≡ sumTo binary64 (rawAt fc w i0 n) from ⌝ ∗ ⌜ PendingTap (rawAt fc w i0 n) (idealAt fc n) n half n from (now raws) ⌝ }
+    ensures { λ r. ⌜ SumCached (rawAt fc w i0 n) n r (now (raws .exit)) ⌝ }
 {
     keep_rest(fc, w, i0, n, half, from, &mut *raws);
     sum_on(begun, &*raws, from, n)
@@ -178,8 +178,8 @@ fn rest_kept(
 
 // The same where it hasn't: each is worked out and taken up.
 fn rest_taken(fc: f64, w: Window, i0: f64, n: u64, from: u64, begun: f64, raws: &mut [f64]) -> f64
-    requires { ⌜ n ≤ 2 ^ 24 ⌝ ∗ ⌜ from ≤ n ⌝ ∗ ⌜ Totals (rawAt fc w i0 n) from begun (now raws) ⌝ }
-    ensures { λ r. ⌜ Totals (rawAt fc w i0 n) n r (now (raws .exit)) ⌝ }
+    requires { ⌜ n ≤ 2 ^ 24 ⌝ ∗ ⌜ from ≤ n ⌝ ∗ ⌜ SumCached (rawAt fc w i0 n) from begun (now raws) ⌝ }
+    ensures { λ r. ⌜ SumCached (rawAt fc w i0 n) n r (now (raws .exit)) ⌝ }
 {
     let mut sum = begun;
     let mut i = from;
@@ -227,7 +227,7 @@ fn plan_of(w: Window, n: u64, room: u64) -> Plan
 // The sum of the raw taps, by rising index from +0. As many of them as `raws` has places are kept there, so that they needn't be worked out again. The first are taken two at a time, since two of Kaiser's series cost little more than one, and two of his roots less than two. What else they need, and the arguments of the next two, stands before the series: where these end is a branch that a processor foretells wrongly, and only what comes before it is worked out alongside.
 fn summed(fc: f64, w: Window, i0: f64, n: u64, raws: &mut [f64]) -> f64
     requires { ⌜ 0 < n ⌝ ∗ ⌜ n ≤ 2 ^ 24 ⌝ }
-    ensures { λ r. ⌜ Totals (rawAt fc w i0 n) n r (now (raws .exit)) ⌝ }
+    ensures { λ r. ⌜ SumCached (rawAt fc w i0 n) n r (now (raws .exit)) ⌝ }
 {
     let plan = plan_of(w, n, raws.len() as u64);
     let front = plan.front;
@@ -258,7 +258,7 @@ fn summed(fc: f64, w: Window, i0: f64, n: u64, raws: &mut [f64]) -> f64
         i += 2;
     }
     if n <= raws.len() as u64 {
-        rest_kept(fc, w, i0, n, half, i, sum, &mut *raws)
+        rest_cached(fc, w, i0, n, half, i, sum, &mut *raws)
     } else {
         rest_taken(fc, w, i0, n, i, sum, &mut *raws)
     }
@@ -266,7 +266,7 @@ fn summed(fc: f64, w: Window, i0: f64, n: u64, raws: &mut [f64]) -> f64
 
 // The same for any n: 0 for no taps; and for more than a design takes 0, with `raws` as it came.
 pub fn total(fc: f64, w: Window, i0: f64, n: u64, raws: &mut [f64]) -> f64
-    ensures { λ r. ⌜ (n ≤ 2 ^ 24 → Totals (rawAt fc w i0 n) n r (now (raws .exit))) ⌝ ∗ ⌜ (2 ^ 24 < n → r ≡ whole 0) ⌝ ∗ ⌜ (2 ^ 24 < n → now (raws .exit) ≡ now (raws .entry)) ⌝ }
+    ensures { λ r. ⌜ (n ≤ 2 ^ 24 → SumCached (rawAt fc w i0 n) n r (now (raws .exit))) ⌝ ∗ ⌜ (2 ^ 24 < n → r ≡ whole 0) ⌝ ∗ ⌜ (2 ^ 24 < n → now (raws .exit) ≡ now (raws .entry)) ⌝ }
 {
     if n > TAP_LIMIT {
         return 0.0;

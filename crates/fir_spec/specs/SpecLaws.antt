@@ -1,5 +1,5 @@
 -- An accepted design by a specification has as many taps as its buffer has elements. Assumes nothing.
-use mathlib.Core.Path.{_≡_, sym}
+use mathlib.Core.Path.{sym}
 use Prim.Native.Nat.{ℕ}
 use lib.Ieee.{Float}
 use Rattle.verdict.specs.Counted.{Counted, where-equal}

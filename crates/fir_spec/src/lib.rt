@@ -17,7 +17,7 @@ ghost use mathlib.Core.Path.{_≡_};
 ghost use lib.ListN.{length};
 ghost use Rattle.verdict.specs.Outcome.{Fills};
 ghost use Rattle.fir_lowpass.specs.Lowpass.{outcomeOf};
-ghost use Rattle.fir_lowpass.specs.Kept.{Prepares};
+ghost use Rattle.fir_lowpass.specs.Cached.{PreparesLowpass};
 ghost use Rattle.fir_spec.specs.Spec.{cutoffTaken, cappedOf, specOrderOf, numTapsOf, specLowpassOf, specDesignOf};
 
 // The cutoff, the width of the transition around it, and the attenuation in dB beyond it.
@@ -72,7 +72,7 @@ pub fn spec_order(spec: DesignSpec, rate: f64, cap: u64) -> Order
 // The design for a buffer of `len` elements, with the series at beta: refused as `spec_order`, then 8 where the taps are not `len`, then as a low-pass.
 // The first raw taps are left in `raws`, as many as it has places.
 pub fn spec_prepare(spec: DesignSpec, rate: f64, cap: u64, len: u64, raws: &mut [f64]) -> Prepared
-    ensures { λ r. ⌜ Prepares (specDesignOf spec rate cap len) r (now (raws .exit)) ⌝ }
+    ensures { λ r. ⌜ PreparesLowpass (specDesignOf spec rate cap len) r (now (raws .exit)) ⌝ }
 {
     let order = spec_order(spec, rate, cap);
     match order {

@@ -1,3 +1,4 @@
 pub mod Exp
 pub mod ExpLaws
 pub mod Pow04
+pub mod ExpFits

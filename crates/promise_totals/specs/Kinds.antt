@@ -4,11 +4,10 @@ use mathlib.Core.Path.{_≡_, refl, sym, subst}
 use Prim.Native.Nat.{ℕ, _+_, _*_, _≤_, _<_}
 use borrow.Author.Tests.{lt-ltb, le-ltb}
 use lib.Dec.{T, ltb}
-use lib.Ieee.{Float, binary64, neg, lt, le, fits}
-use lib.Ieee.Fits.{cond-fits, mul-fits, div-fits, ofInt-fits, nan-fits}
+use lib.Ieee.{Float, binary64, fits}
+use lib.Ieee.Fits.{cond-fits, mul-fits, div-fits, ofInt-fits}
 use Rattle.laws.specs.Binary64.{_⊘_, whole}
-use Rattle.laws.specs.Floor.{floorZ}
-use Rattle.math_exp.specs.Exp.{doublings, rest, expSeries, twoTo, expOf}
+use Rattle.math_exp.specs.ExpFits.{exp-fits}
 use Rattle.fir_sinc.specs.Windows.{normOf}
 use Rattle.fir_sinc.specs.Taps.{rawAt}
 use Rattle.fir_lowpass.specs.Lowpass as Lowpass
@@ -88,10 +87,6 @@ halfband-normalised beta n d e =
     })
 
 -- ---- the Gaussian
-exp-fits : (x : Float) → T (fits binary64 (expOf x))
-unfolding expOf
-exp-fits x = cond-fits binary64 (lt x (neg (whole 700))) _ _ nought-fits (cond-fits binary64 (le x (whole 0)) _ _ (mul-fits binary64 (expSeries (rest x)) (twoTo (floorZ (doublings x)))) (nan-fits binary64))
-
 gaussian-raw-fits : (a sps mid : Float) (i : ℕ) → T (fits binary64 (Gaussian.rawAt a sps mid i))
 unfolding Gaussian.rawAt
 gaussian-raw-fits a sps mid i = exp-fits _

@@ -1,7 +1,7 @@
 // A half-band into a buffer.
 use fir_halfband::HalfbandDesign;
 use fir_halfband::HalfbandDesigned;
-use fir_halfband::kept_tap;
+use fir_halfband::cached_tap;
 use verdict::Verdict;
 ghost use lib.ListN.{length};
 ghost use Rattle.verdict.specs.Outcome.{Fills};
@@ -20,7 +20,7 @@ pub fn halfband_taps(beta: f64, taps: &mut [f64]) -> Verdict
             let w = lp.window;
             let i0 = fir_sinc::window::norm(w);
             for k in 0..n {
-                taps[k] = kept_tap(d, i0, &none, k as u64);
+                taps[k] = cached_tap(d, i0, &none, k as u64);
             }
             Verdict::Done
         }

@@ -3,7 +3,7 @@ use Prim.Native.Nat.{ℕ}
 use mathlib.Core.List.{List}
 use lib.Ieee.{Float}
 use Rattle.fir_lowpass.specs.Lowpass as Lowpass
-use Rattle.fir_lowpass.specs.Kept.{Keeps}
+use Rattle.fir_lowpass.specs.Cached.{Caches}
 use Rattle.fir_halfband.specs.Halfband as Halfband
 use Rattle.fir_gaussian.specs.Gaussian as Gaussian
 use Rattle.fir_rrc.specs.Rrc as Rrc
@@ -18,8 +18,8 @@ tapAt (Source.Gaussian g) i = Gaussian.tapOf g i
 tapAt (Source.Rrc d) i = Rrc.tapOf d i
 
 -- a list keeps the first raw taps, where any are kept
-abbrev pub KeptFor : Source → List Float → Type 0
-KeptFor (Source.Lowpass l i0) rs = Keeps l i0 rs
-KeptFor (Source.Halfband d i0) rs = Keeps (d .lp) i0 rs
-KeptFor (Source.Gaussian g) rs = Gaussian.Keeps g rs
-KeptFor (Source.Rrc d) rs = Unit {0}
+abbrev pub CachedFor : Source → List Float → Type 0
+CachedFor (Source.Lowpass l i0) rs = Caches l i0 rs
+CachedFor (Source.Halfband d i0) rs = Caches (d .lp) i0 rs
+CachedFor (Source.Gaussian g) rs = Gaussian.Caches g rs
+CachedFor (Source.Rrc d) rs = Unit {0}

@@ -10,8 +10,8 @@ ghost use lib.ListN.{length};
 ghost use Rattle.laws.specs.Chunks.{chunked};
 ghost use Rattle.wire.specs.Bytes.{floatBytes};
 ghost use Rattle.fir_lowpass.specs.Lowpass.{tapWith};
-ghost use Rattle.fir_lowpass.specs.Kept.{Keeps};
-ghost use Rattle.ticket_taps.specs.Sources.{tapAt, KeptFor};
+ghost use Rattle.fir_lowpass.specs.Cached.{Caches};
+ghost use Rattle.ticket_taps.specs.Sources.{tapAt, CachedFor};
 
 // A design of any kind, with the series at its beta where it has one.
 pub enum Source {
@@ -23,12 +23,12 @@ pub enum Source {
 
 // Tap i, from a list that keeps the first raw taps.
 fn tap_at(source: Source, raws: &[f64], i: u64) -> f64
-    ensures { λ r. ⌜ (KeptFor source (now (raws .entry)) → r ≡ tapAt source i) ⌝ }
+    ensures { λ r. ⌜ (CachedFor source (now (raws .entry)) → r ≡ tapAt source i) ⌝ }
 {
     match source {
-        Source::Lowpass(lp, i0) => fir_lowpass::lowpass::kept_tap(lp, i0, raws, i),
-        Source::Halfband(d, i0) => fir_halfband::kept_tap(d, i0, raws, i),
-        Source::Gaussian(g) => fir_gaussian::gaussian_design::kept_tap(g, raws, i),
+        Source::Lowpass(lp, i0) => fir_lowpass::lowpass::cached_tap(lp, i0, raws, i),
+        Source::Halfband(d, i0) => fir_halfband::cached_tap(d, i0, raws, i),
+        Source::Gaussian(g) => fir_gaussian::gaussian_design::cached_tap(g, raws, i),
         Source::Rrc(d) => d.tap(i),
     }
 }
@@ -41,8 +41,8 @@ fn smaller(a: usize, b: usize) -> usize
 }
 
 // Puts the first taps of a low-pass in their places, as many as raw taps are kept, and tells how many. A loop of its own, since a division is all that each needs.
-fn put_kept(lp: Lowpass, i0: f64, raws: &[f64], out: &mut [u8]) -> usize
-    ensures { λ r. ⌜ 8 * r ≤ length (now (out .entry)) ⌝ ∗ ⌜ (Keeps lp i0 (now (raws .entry)) → now (out .exit) ≡ chunked 8 r (λ k. floatBytes (tapWith lp i0 k)) (now (out .entry))) ⌝ }
+fn put_cached(lp: Lowpass, i0: f64, raws: &[f64], out: &mut [u8]) -> usize
+    ensures { λ r. ⌜ 8 * r ≤ length (now (out .entry)) ⌝ ∗ ⌜ (Caches lp i0 (now (raws .entry)) → now (out .exit) ≡ chunked 8 r (λ k. floatBytes (tapWith lp i0 k)) (now (out .entry))) ⌝ }
 {
     if lp.n > TAP_LIMIT {
         return 0;
@@ -56,17 +56,17 @@ fn put_kept(lp: Lowpass, i0: f64, raws: &[f64], out: &mut [u8]) -> usize
 
 // The first taps of a design of any kind, where that is quicker than one by one; none of them else.
 fn put_first(source: Source, raws: &[f64], out: &mut [u8]) -> usize
-    ensures { λ r. ⌜ 8 * r ≤ length (now (out .entry)) ⌝ ∗ ⌜ (KeptFor source (now (raws .entry)) → now (out .exit) ≡ chunked 8 r (λ k. floatBytes (tapAt source k)) (now (out .entry))) ⌝ }
+    ensures { λ r. ⌜ 8 * r ≤ length (now (out .entry)) ⌝ ∗ ⌜ (CachedFor source (now (raws .entry)) → now (out .exit) ≡ chunked 8 r (λ k. floatBytes (tapAt source k)) (now (out .entry))) ⌝ }
 {
     match source {
-        Source::Lowpass(lp, i0) => put_kept(lp, i0, raws, &mut *out),
+        Source::Lowpass(lp, i0) => put_cached(lp, i0, raws, &mut *out),
         _ => 0,
     }
 }
 
 // Fills the buffer: the eight bytes of tap i at 8 i, as far as they fit wholly. There is no heap, so each tap goes straight to its place.
 pub fn put_taps(source: Source, raws: &[f64], out: &mut [u8])
-    ensures { λ _. ⌜ (KeptFor source (now (raws .entry)) → now (out .exit) ≡ chunked 8 (length (now (out .entry)) / 8) (λ i. floatBytes (tapAt source i)) (now (out .entry))) ⌝ }
+    ensures { λ _. ⌜ (CachedFor source (now (raws .entry)) → now (out .exit) ≡ chunked 8 (length (now (out .entry)) / 8) (λ i. floatBytes (tapAt source i)) (now (out .entry))) ⌝ }
 {
     let n = out.len() / 8;
     let mut i = put_first(source, raws, &mut *out);

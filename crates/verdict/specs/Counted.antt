@@ -1,5 +1,5 @@
 -- A design has as many taps as were asked for, where it is one. Assumes nothing.
-use mathlib.Core.Path.{_≡_, refl}
+use mathlib.Core.Path.{_≡_, refl, sym, ap, _∙_}
 use mathlib.Core.Bool.{Bool, true, false, cond}
 use Prim.Native.Nat.{ℕ}
 use borrow.Author.Tests.{eqb-true}
@@ -18,3 +18,12 @@ where-equal of n x y a c p q = go (eqb a c) (eqb-true a c)
     go : (b : Bool) → (b ≡ true → a ≡ c) → Counted n (of (cond b x y))
     go true e = p (e refl)
     go false e = q
+
+-- an answer that stands where its count is that of a buffer: where it is the design d, it was so without the buffer, and d
+-- has as many taps as that has elements
+pub fitted : {D R : Type 0} (ready : D → R) (size : D → ℕ) (refusal : R) (len : ℕ) (g d : D) → ((x y : D) → ready x ≡ ready y → x ≡ y) → (refusal ≡ ready d → ⊥) → cond (eqb (size g) len) (ready g) refusal ≡ ready d → (ready g ≡ ready d) × (size d ≡ len)
+fitted ready size refusal len g d same never e = go (eqb (size g) len) (eqb-true (size g) len) e
+  where
+    go : (b : Bool) → (b ≡ true → size g ≡ len) → cond b (ready g) refusal ≡ ready d → (ready g ≡ ready d) × (size d ≡ len)
+    go true k e = (e, ap size (sym (same g d e)) ∙ k refl)
+    go false k e = absurd (never e)

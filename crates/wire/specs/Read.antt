@@ -9,14 +9,14 @@ use borrow.Author.Tests.{lt-ltb, le-ltb}
 use lib.Dec.{T, lit≤}
 use lib.ListN.{length, take, drop, getD, length-drop}
 use lib.Seq.{drop-cons, take-all, drop-at, take-append-le, drop-append-le}
-use lib.Ieee.{Float, nan, Format, binary32, binary64, ofBits, toBits, fits, nanBits, ones, hid, top}
+use lib.Ieee.{Float, nan, Format, binary64, ofBits, toBits, fits, nanBits, ones, hid, top}
 use lib.Ieee.Bits.{ofBits-toBits, toBits-lt, nanBits-is, nanBits-above}
 use Rattle.laws.specs.Cases.{either}
 use Rattle.laws.specs.Numbers.{lt-or-le}
 use Rattle.laws.specs.Tests.{fails, is-nan}
 use Rattle.laws.specs.Chunks.{chunks, length-chunks}
 use Rattle.laws.specs.Filled.{tabulate, tabulate-below}
-use Rattle.wire.specs.Bytes.{bytesOf, floatBytes, numberOf, joined, joinedFour, floatOf, floatAt, floatsIn}
+use Rattle.wire.specs.Bytes.{bytesOf, floatBytes, numberOf, joined, joinedFour, floatOf, floatsIn}
 use Rattle.wire.specs.Laws.{length-bytes}
 
 -- ---- a number

@@ -4,13 +4,13 @@ use Prim.Native.Nat.{ℕ, _≤_, _-_}
 use native.Mathlib.Omega.{arith}
 use lib.Ieee.{Float, binary64, add}
 use Rattle.laws.specs.Sums.{sumTo, sum-none, sum-more}
-use Rattle.fir_lowpass.specs.Kept.{Keeps}
+use Rattle.fir_lowpass.specs.Cached.{Caches}
 use Rattle.fir_halfband.specs.Halfband.{unscaledWith}
 use Rattle.fir_halfband.proofs.total.Statement.{statement}
 use Rattle.fir_halfband.proofs.total.Tie as tie
 
 abbrev Inv-loop : tie.InvT-loop
-Inv-loop lp i0 raws n sum₀ k₀ sum k = (k ≤ n) × (Keeps lp i0 raws → sum ≡ sumTo binary64 (unscaledWith lp i0 n) k)
+Inv-loop lp i0 raws n sum₀ k₀ sum k = (k ≤ n) × (Caches lp i0 raws → sum ≡ sumTo binary64 (unscaledWith lp i0 n) k)
 
 abbrev μ-loop : tie.MeasureT-loop
 μ-loop lp i0 raws n sum₀ k₀ sum k = n - k

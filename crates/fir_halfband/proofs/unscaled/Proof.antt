@@ -23,8 +23,8 @@ sub-across c = search needs
 sub-across-2 : tie.Need-sub-across-2
 sub-across-2 c = search needs
 
-kept-tap-requires : tie.Need-kept-tap-requires
-kept-tap-requires c κs = search needs
+cached-tap-requires : tie.Need-cached-tap-requires
+cached-tap-requires c κs = search needs
 
 is-lesser : (c : tie.Joined2) → let a = c .before .before .before .before .args in c .if2 .first ≡ min (a .k) (a .n - 1 - a .k)
 is-lesser c = either (c .if2 .came) (λ w. let h = w .0 .taken in w .1 ∙ omega arith) (λ w. let h = w .0 .left in w .1 ∙ omega arith)
@@ -33,9 +33,9 @@ returns-2 : tie.Need-returns-2
 unfolding unscaledWith
 returns-2 c k =
     let a = c .before .before .before .before .before .args in
-    c .kept-tap .ensures k ∙ ap (λ (j : ℕ). tapWith (a .lp) (a .i0) j) (is-lesser (c .before)) ∙ sym (rw (sym (c .before .before .before .is-zero-at .ensures) ∙ c .before .before .if1 .left))
+    c .cached-tap .ensures k ∙ ap (λ (j : ℕ). tapWith (a .lp) (a .i0) j) (is-lesser (c .before)) ∙ sym (rw (sym (c .before .before .before .is-zero-at .ensures) ∙ c .before .before .if1 .left))
 
 pub unscaled-spec : {M : Type 1} → statement M
 unscaled-spec =
     tie.close
-    (tie.spec is-zero-at-requires returns sub-across sub-across-2 kept-tap-requires returns-2)
+    (tie.spec is-zero-at-requires returns sub-across sub-across-2 cached-tap-requires returns-2)

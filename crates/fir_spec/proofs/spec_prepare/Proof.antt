@@ -1,9 +1,8 @@
 -- `fir_spec::spec_prepare` meets its contract. Assumes nothing.
-use mathlib.Core.Path.{_≡_, refl, sym, ap, _∙_}
+use mathlib.Core.Path.{sym, ap, _∙_}
 use borrow.Author.Tests.{eq-eqb, ne-eqb}
 use Rattle.fir_lowpass.specs.LowpassLaws.{prepares-as, prepares-refusal}
 use Rattle.fir_spec.specs.Spec.{designIn, specDesignOf}
-use native.Mathlib.Omega.{arith}
 use borrow.Author.Needs.{needs}
 use Rattle.fir_spec.proofs.spec_prepare.Statement.{statement}
 use Rattle.fir_spec.proofs.spec_prepare.Tie as tie

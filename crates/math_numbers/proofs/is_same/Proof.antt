@@ -4,7 +4,7 @@ use mathlib.Core.Bool.{true, false, not, true≢false}
 use Prim.Native.Nat.{ℕ}
 use borrow.Author.Tests.{eqb-true}
 use lib.Dec.{T}
-use lib.Ieee.{Float, nan, inf, fin, binary64, fits, ofBits, toBits, eq, isNan}
+use lib.Ieee.{Float, nan, inf, fin, binary64, ofBits, toBits, eq, isNan}
 use lib.Ieee.Bits.{ofBits-toBits}
 use Rattle.math_numbers.specs.Numbers.{same}
 use Rattle.math_numbers.proofs.is_same.Statement.{statement}

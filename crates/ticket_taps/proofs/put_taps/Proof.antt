@@ -6,7 +6,7 @@ use native.Mathlib.Omega.{arith}
 use lib.ListN.{length}
 use lib.Ieee.{Float, binary64, toBits}
 use Rattle.ticket_taps.specs.declared.Source.{Source}
-use Rattle.ticket_taps.specs.Sources.{tapAt, KeptFor}
+use Rattle.ticket_taps.specs.Sources.{tapAt, CachedFor}
 use Rattle.wire.specs.WrittenPrefix.{WrittenPrefix, one-more}
 use Rattle.ticket_taps.proofs.put_taps.Statement.{statement}
 use Rattle.ticket_taps.proofs.put_taps.Tie as tie
@@ -16,7 +16,7 @@ abbrev tapBits : Source → ℕ → ℕ
 tapBits source k = toBits binary64 (tapAt source k)
 
 abbrev Inv-loop : tie.InvT-loop
-Inv-loop source raws out₀ n i₀ out i = (i ≤ n) × (length out ≡ length out₀) × ((came : List ℕ) → 8 * n ≤ length came → WrittenPrefix 8 (KeptFor source raws) (tapBits source) came i₀ out₀ → WrittenPrefix 8 (KeptFor source raws) (tapBits source) came i out)
+Inv-loop source raws out₀ n i₀ out i = (i ≤ n) × (length out ≡ length out₀) × ((came : List ℕ) → 8 * n ≤ length came → WrittenPrefix 8 (CachedFor source raws) (tapBits source) came i₀ out₀ → WrittenPrefix 8 (CachedFor source raws) (tapBits source) came i out)
 
 abbrev μ-loop : tie.MeasureT-loop
 μ-loop source raws out₀ n i₀ out i = n - i

@@ -1,5 +1,5 @@
 -- `c_windows::write::put_samples` meets its contract. The loop keeps the samples so far at the front of the buffer, and the arguments of the next two. Assumes nothing.
-use mathlib.Core.Path.{_≡_, refl, sym, ap, _∙_}
+use mathlib.Core.Path.{_≡_, refl, ap, _∙_}
 use mathlib.Core.List.{List}
 use Prim.Native.Nat.{ℕ, _+_, _*_, _/_, _-_, _^_, _%_, _<_, _≤_}
 use native.Mathlib.Omega.{arith}

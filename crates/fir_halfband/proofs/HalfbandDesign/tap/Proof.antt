@@ -10,17 +10,17 @@ use Rattle.fir_halfband.proofs.HalfbandDesign.tap.Tie as tie
 norm-requires : tie.Need-norm-requires
 norm-requires c κs = search needs
 
-slice-aggregate-kept-tap : tie.Need-slice-aggregate-kept-tap
-slice-aggregate-kept-tap c = search needs
+slice-aggregate-cached-tap : tie.Need-slice-aggregate-cached-tap
+slice-aggregate-cached-tap c = search needs
 
-kept-tap-requires : tie.Need-kept-tap-requires
-kept-tap-requires c κs = search needs
+cached-tap-requires : tie.Need-cached-tap-requires
+cached-tap-requires c κs = search needs
 
 returns : tie.Need-returns
 unfolding tapOf
 returns c =
     let a = c .before .before .before .before .args in
-    c .kept-tap .ensures (λ i h l. absurd (omega arith)) ∙ ap (λ (z : Float). tapWith (a .self) z (a .k)) (c .before .before .norm .ensures)
+    c .cached-tap .ensures (λ i h l. absurd (omega arith)) ∙ ap (λ (z : Float). tapWith (a .self) z (a .k)) (c .before .before .norm .ensures)
 
 pub tap-spec : {M : Type 1} → statement M
-tap-spec = tie.close (tie.spec norm-requires slice-aggregate-kept-tap kept-tap-requires returns)
+tap-spec = tie.close (tie.spec norm-requires slice-aggregate-cached-tap cached-tap-requires returns)

@@ -8,7 +8,7 @@ use Rattle.laws.specs.Binary64.{_⊘_}
 use Rattle.laws.specs.Sums.{sumTo}
 use Rattle.math_numbers.specs.Numbers.{positive}
 use Rattle.fir_sinc.specs.Taps.{rawAt}
-use Rattle.fir_cache.specs.Cached.{Totals}
+use Rattle.fir_cache.specs.Cached.{SumCached}
 use Rattle.fir_lowpass.specs.Lowpass.{divisorOf, inside, countTaken, betaTaken, usable}
 use Rattle.fir_lowpass.specs.LowpassLaws.{count-most, ready, no-divisor, no-beta, no-count, no-cutoff, no-rate, refuses, accepts}
 use Rattle.fir_lowpass.proofs.lowpass.prepare.Statement.{statement}
@@ -67,7 +67,7 @@ total-requires c κs = tt
 abbrev start : tie.After-total → tie.Start
 start c = c .before .before .before .before .before .before .before .before .before .before .before .before
 
-totals : (c : tie.After-total) → Totals (rawAt (start c .args .cutoff ⊘ start c .args .rate) (start c .args .window) (c .before .before .norm .result) (start c .args .n)) (start c .args .n) (c .total .result) (c .total .last .1 .1 .1 .1 .0)
+totals : (c : tie.After-total) → SumCached (rawAt (start c .args .cutoff ⊘ start c .args .rate) (start c .args .window) (c .before .before .norm .result) (start c .args .n)) (start c .args .n) (c .total .result) (c .total .last .1 .1 .1 .1 .0)
 totals c = c .total .ensures .0 (count-most (start c .args .n) (past3 (c .before .before .before .before .before)))
 
 divided : (c : tie.After-total) → c .total .result ≡ divisorOf (start c .args .cutoff ⊘ start c .args .rate) (start c .args .window) (start c .args .n)

@@ -1,4 +1,4 @@
--- `fir_sinc::sum::keep_next` meets its contract: what it leaves, by `Waiting`, in each of three cases. Assumes nothing.
+-- `fir_sinc::sum::keep_next` meets its contract: what it leaves, by `Pending`, in each of three cases. Assumes nothing.
 use mathlib.Core.Path.{_≡_, sym, _∙_}
 use Prim.Native.Nat.{_-_}
 use native.Mathlib.Omega.{arith}
@@ -8,7 +8,7 @@ use lib.Ieee.{nan}
 use Rattle.laws.specs.Binary64.{_⊗_}
 use Rattle.fir_sinc.specs.StepLaws.{raw-is}
 use Rattle.fir_sinc.specs.Mirrored.{same-raw}
-use Rattle.fir_sinc.specs.Waiting.{waits-more, waits-next, waits-over}
+use Rattle.fir_sinc.specs.Pending.{pending-more, pending-next, pending-over}
 use Rattle.fir_sinc.proofs.sum.keep_next.Statement.{statement}
 use Rattle.fir_sinc.proofs.sum.keep_next.Tie as tie
 
@@ -54,7 +54,7 @@ returns c =
     let m = c .before .before .before .before .before .before .ideal-near .ensures .1 (c .before .before .before .before .before .if1 .taken) in
     let s = c .before .before .is-same .ensures .1 (c .before .if2 .taken) in
     let p = sym (c .before .before .before .before .place-at .ensures) ∙ s ∙ c .before .before .before .place-at2 .ensures in
-    waits-more t (omega arith) (t .keeps j (omega (arith, m .0, t .after)) (λ (q : j ≡ a .p). omega (arith, m .0, t .late)) ∙ sym (same-raw (a .fc) (a .w) (a .i0) (a .n) (a .i) j p (m .1)))
+    pending-more t (omega arith) (t .keeps j (omega (arith, m .0, t .after)) (λ (q : j ≡ a .p). omega (arith, m .0, t .late)) ∙ sym (same-raw (a .fc) (a .w) (a .i0) (a .n) (a .i) j p (m .1)))
 
 windows-at-requires : tie.Need-windows-at-requires
 windows-at-requires c κs = let b = c .before .before .before .before .before .pre .1 .1 .behind (omega arith) in (omega arith, (omega arith, (omega arith, omega arith)))
@@ -97,13 +97,13 @@ returns-2 c =
     let v = c .before .before .before .before .windows-at .ensures in
     let first = raw-is (a .fc) (a .w) (a .i0) (a .n) (a .p) (t .waiting (omega arith)) (v .0) in
     let second = raw-is (a .fc) (a .w) (a .i0) (a .n) (a .i) (c .before .before .before .before .before .before .before .ideal-near .ensures .0) (v .1) in
-    waits-more (waits-over t (omega arith) (omega arith) first) (omega arith) second
+    pending-more (pending-over t (omega arith) (omega arith) first) (omega arith) second
 
 same-length-3 : tie.Need-same-length-3
 same-length-3 c = search needs
 
 returns-3 : tie.Need-returns-3
-returns-3 c = waits-next (c .before .before .before .before .before .pre .1 .1) (omega arith) (omega arith) (c .before .before .ideal-near .ensures .0)
+returns-3 c = pending-next (c .before .before .before .before .before .pre .1 .1) (omega arith) (omega arith) (c .before .before .ideal-near .ensures .0)
 
 pub keep-next-spec : {M : Type 1} → statement M
 keep-next-spec =

@@ -1,4 +1,4 @@
--- `fir_sinc::sum::keep_rest` meets its contract: `Waits` goes through the loop. Assumes nothing.
+-- `fir_sinc::sum::keep_rest` meets its contract: `PendingTap` goes through the loop. Assumes nothing.
 use mathlib.Core.Path.{_≡_, refl, _∙_}
 use Prim.Native.Nat.{_-_, _≤_}
 use native.Mathlib.Omega.{arith}
@@ -7,12 +7,12 @@ use lib.Ieee.{nan}
 use Rattle.laws.specs.Binary64.{_⊗_}
 use Rattle.fir_sinc.specs.Taps.{idealAt, rawAt}
 use Rattle.fir_sinc.specs.StepLaws.{raw-is}
-use Rattle.fir_sinc.specs.Waiting.{Waits, waits-over, waits-all}
+use Rattle.fir_sinc.specs.Pending.{PendingTap, pending-over, pending-all}
 use Rattle.fir_sinc.proofs.sum.keep_rest.Statement.{statement}
 use Rattle.fir_sinc.proofs.sum.keep_rest.Tie as tie
 
 abbrev Inv-loop : tie.InvT-loop
-Inv-loop fc w i0 n half from raws₀ p₀ i₀ raws p i = (i ≤ n) × (length raws ≡ length raws₀) × Waits (rawAt fc w i0 n) (idealAt fc n) n half p i raws
+Inv-loop fc w i0 n half from raws₀ p₀ i₀ raws p i = (i ≤ n) × (length raws ≡ length raws₀) × PendingTap (rawAt fc w i0 n) (idealAt fc n) n half p i raws
 
 abbrev μ-loop : tie.MeasureT-loop
 μ-loop fc w i0 n half from raws₀ p₀ i₀ raws p i = n - i
@@ -55,13 +55,13 @@ returns c =
     let a = c .before .before .before .before .before .before .args in
     let at = c .before .before .before .before .loop in
     let t = at .inv .2 in
-    waits-all (waits-over t (omega arith) (omega arith) (raw-is (a .fc) (a .w) (a .i0) (a .n) (at .p) (t .waiting (omega arith)) (c .window-at .ensures))) (omega arith) (omega arith)
+    pending-all (pending-over t (omega arith) (omega arith) (raw-is (a .fc) (a .w) (a .i0) (a .n) (at .p) (t .waiting (omega arith)) (c .window-at .ensures))) (omega arith) (omega arith)
 
 same-length-2 : tie.Need-same-length-2 Inv-loop μ-loop
 same-length-2 c = c .before .before .loop .inv .1
 
 returns-2 : tie.Need-returns-2 Inv-loop μ-loop
-returns-2 c = waits-all (c .before .before .loop .inv .2) (omega arith) (omega arith)
+returns-2 c = pending-all (c .before .before .loop .inv .2) (omega arith) (omega arith)
 
 pub keep-rest-spec : {M : Type 1} → statement M
 keep-rest-spec =

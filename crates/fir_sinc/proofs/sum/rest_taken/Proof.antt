@@ -3,18 +3,18 @@ use mathlib.Core.Path.{refl}
 use Prim.Native.Nat.{_-_}
 use native.Mathlib.Omega.{arith}
 use Rattle.fir_sinc.specs.Taps.{rawAt}
-use Rattle.fir_cache.specs.CachedLaws.{Sofar, taken, all}
+use Rattle.fir_cache.specs.CachedLaws.{SumPrefix, taken, all}
 use Rattle.fir_sinc.proofs.sum.rest_taken.Statement.{statement}
 use Rattle.fir_sinc.proofs.sum.rest_taken.Tie as tie
 
 abbrev Inv-loop : tie.InvT-loop
-Inv-loop fc w i0 n from begun raws₀ sum₀ i₀ raws sum i = Sofar (rawAt fc w i0 n) n raws₀ raws sum i
+Inv-loop fc w i0 n from begun raws₀ sum₀ i₀ raws sum i = SumPrefix (rawAt fc w i0 n) n raws₀ raws sum i
 
 abbrev μ-loop : tie.MeasureT-loop
 μ-loop fc w i0 n from begun raws₀ sum₀ i₀ raws sum i = n - i
 
 loop-holds : tie.Need-loop-holds Inv-loop μ-loop
-loop-holds c = let q = c .before .pre .1 in record { within = q .0; same = refl; totals = q .1 }
+loop-holds c = let q = c .before .pre .1 in record { within = q .0; same = refl; summed = q .1 }
 
 raw-at-requires : tie.Need-raw-at-requires Inv-loop μ-loop
 raw-at-requires c κs = (omega arith, omega arith)

@@ -6,14 +6,14 @@ use lib.Ieee.{Float}
 use Rattle.win_shapes.specs.Steps.{argumentOf}
 use Rattle.fir_sinc.specs.StepLaws.{placeAt, curveOf, windowed, raw-is}
 use Rattle.fir_sinc.specs.Taps.{idealAt, rawAt}
-use Rattle.fir_cache.specs.CachedLaws.{Sofar, totals-none}
-use Rattle.fir_sinc.specs.Waiting.{Planned, Images, two-more, waits-none}
+use Rattle.fir_cache.specs.CachedLaws.{SumPrefix, sum-cached-none}
+use Rattle.fir_sinc.specs.Pending.{Planned, Images, two-more, pending-none}
 use Rattle.fir_sinc.proofs.sum.summed.Statement.{statement}
 use Rattle.fir_sinc.proofs.sum.summed.Tie as tie
 
 abbrev Inv-loop : tie.InvT-loop
 Inv-loop fc w i0 n raws₀ front last half x₀ y₀ sum₀ i₀ raws x y sum i =
-    Planned n front last half × Sofar (rawAt fc w i0 n) n raws₀ raws sum i × Images (idealAt fc n) last i raws × (x ≡ argumentOf (curveOf w) (placeAt w n i)) × (y ≡ argumentOf (curveOf w) (placeAt w n (i + 1)))
+    Planned n front last half × SumPrefix (rawAt fc w i0 n) n raws₀ raws sum i × Images (idealAt fc n) last i raws × (x ≡ argumentOf (curveOf w) (placeAt w n i)) × (y ≡ argumentOf (curveOf w) (placeAt w n (i + 1)))
 
 abbrev μ-loop : tie.MeasureT-loop
 μ-loop fc w i0 n raws₀ front last half x₀ y₀ sum₀ i₀ raws x y sum i = n - i
@@ -34,7 +34,7 @@ loop-holds : tie.Need-loop-holds Inv-loop μ-loop
 loop-holds c =
     let a = c .before .before .before .before .before .args in (
       c .before .before .before .plan-of .ensures,
-      record { within = omega arith; same = refl; totals = totals-none (rawAt (a .fc) (a .w) (a .i0) (a .n)) (a .raws .now) },
+      record { within = omega arith; same = refl; summed = sum-cached-none (rawAt (a .fc) (a .w) (a .i0) (a .n)) (a .raws .now) },
       λ k l m. absurd (omega arith),
       c .arguments-of .ensures .0 ∙ ap (λ (p : Float). argumentOf (curveOf (a .w)) p) (c .before .before .place-at .ensures),
       c .arguments-of .ensures .1 ∙ ap (λ (p : Float). argumentOf (curveOf (a .w)) p) (c .before .place-at2 .ensures),
@@ -103,17 +103,17 @@ loop-again c =
       next .1 ∙ ap (λ (p : Float). argumentOf (curveOf (a .w)) p) (c .before .before .before .before .before .before .before .before .before .before .place-at4 .ensures ∙ ap (λ (k : ℕ). placeAt (a .w) (a .n) k) three),
     )
 
-rest-kept-requires : tie.Need-rest-kept-requires Inv-loop μ-loop
-rest-kept-requires c κs = let at = c .before .before .before .loop in let t = at .inv in (omega arith, (t .1 .within, (t .1 .totals .is, waits-none (t .0) (omega arith) (t .1 .within) (omega arith) (t .1 .totals .keeps) (t .2))))
+rest-cached-requires : tie.Need-rest-cached-requires Inv-loop μ-loop
+rest-cached-requires c κs = let at = c .before .before .before .loop in let t = at .inv in (omega arith, (t .1 .within, (t .1 .summed .is, pending-none (t .0) (omega arith) (t .1 .within) (omega arith) (t .1 .summed .keeps) (t .2))))
 
 rest-taken-requires : tie.Need-rest-taken-requires Inv-loop μ-loop
-rest-taken-requires c κs = let t = c .before .before .before .loop .inv .1 in (omega arith, (t .within, t .totals))
+rest-taken-requires c κs = let t = c .before .before .before .loop .inv .1 in (omega arith, (t .within, t .summed))
 
 same-length : tie.Need-same-length Inv-loop μ-loop
 same-length c = c .before .raws2 .given ∙ c .before .before .before .before .before .before .loop .inv .1 .same
 
 returns : tie.Need-returns Inv-loop μ-loop
-returns c = c .before .before .rest-kept .ensures
+returns c = c .before .before .rest-cached .ensures
 
 same-length-2 : tie.Need-same-length-2 Inv-loop μ-loop
 same-length-2 c = c .before .raws3 .given ∙ c .before .before .before .before .before .before .loop .inv .1 .same
@@ -146,7 +146,7 @@ summed-spec =
     add-i
     loop-less
     loop-again
-    rest-kept-requires
+    rest-cached-requires
     rest-taken-requires
     same-length
     returns

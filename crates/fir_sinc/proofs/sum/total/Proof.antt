@@ -5,8 +5,8 @@ use native.Mathlib.Omega.{arith}
 use borrow.Author.Needs.{needs}
 use lib.Ieee.{ofBits, ofInt, binary64}
 use Rattle.fir_sinc.specs.Taps.{rawAt}
-use Rattle.fir_cache.specs.Cached.{Totals}
-use Rattle.fir_cache.specs.CachedLaws.{totals-none}
+use Rattle.fir_cache.specs.Cached.{SumCached}
+use Rattle.fir_cache.specs.CachedLaws.{sum-cached-none}
 use Rattle.fir_sinc.proofs.sum.total.Statement.{statement}
 use Rattle.fir_sinc.proofs.sum.total.Tie as tie
 
@@ -20,7 +20,7 @@ returns-2 c =
     let a = c .before .before .before .args in
     let g = rawAt (a .fc) (a .w) (a .i0) (a .n) in
     let none : 0 ≡ a .n = omega arith in
-    (λ h. subst (λ (k : ℕ). Totals g k (ofBits binary64 0) (a .raws .now)) none (totals-none g (a .raws .now)), (λ h. absurd (omega arith), λ h. absurd (omega arith)))
+    (λ h. subst (λ (k : ℕ). SumCached g k (ofBits binary64 0) (a .raws .now)) none (sum-cached-none g (a .raws .now)), (λ h. absurd (omega arith), λ h. absurd (omega arith)))
 
 summed-requires : tie.Need-summed-requires
 summed-requires c κs = search needs

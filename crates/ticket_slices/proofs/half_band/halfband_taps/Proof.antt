@@ -29,11 +29,11 @@ norm-requires c κs = tt
 loop-holds : tie.Need-loop-holds Inv-loop μ-loop
 loop-holds c = (omega arith, fill-none _ _)
 
-slice-aggregate-kept-tap : tie.Need-slice-aggregate-kept-tap Inv-loop μ-loop
-slice-aggregate-kept-tap c = refl
+slice-aggregate-cached-tap : tie.Need-slice-aggregate-cached-tap Inv-loop μ-loop
+slice-aggregate-cached-tap c = refl
 
-kept-tap-requires : tie.Need-kept-tap-requires Inv-loop μ-loop
-kept-tap-requires c κs = tt
+cached-tap-requires : tie.Need-cached-tap-requires Inv-loop μ-loop
+cached-tap-requires c κs = tt
 
 abbrev start : tie.At-loop Inv-loop μ-loop → tie.Start Inv-loop μ-loop
 start at = at .before .before .before .before .before .before .before .before
@@ -62,7 +62,7 @@ loop-again c =
     let at = c .before .before .before in
     let s = start at in
     let d = at .before .before .before .before .designed .given .0 .0 in
-    let e = c .kept-tap .ensures (λ i h l. absurd (omega arith)) in
+    let e = c .cached-tap .ensures (λ i h l. absurd (omega arith)) in
     (omega arith, cc (fill-more (at .loop .k) (tapWith d (at .before .norm .result)) (s .args .taps .now) (omega arith)))
 
 enum-known-designed-2 : tie.Need-enum-known-designed-2 Inv-loop μ-loop
@@ -100,8 +100,8 @@ halfband-taps-spec =
     enum-known-designed
     norm-requires
     loop-holds
-    slice-aggregate-kept-tap
-    kept-tap-requires
+    slice-aggregate-cached-tap
+    cached-tap-requires
     mul-taps
     slice-write-taps
     add-k

@@ -4,22 +4,22 @@ use mathlib.Core.List.{List}
 use lib.Ieee.{Float}
 use Rattle.fir_sinc.specs.Windows.{normOf}
 use Rattle.fir_sinc.specs.Taps.{rawAt}
-use Rattle.fir_cache.specs.Cached.{KeepsOf}
+use Rattle.fir_cache.specs.Cached.{CachesOf}
 use Rattle.fir_lowpass.specs.declared.lowpass.Lowpass.{Lowpass}
 use Rattle.fir_lowpass.specs.declared.lowpass.Designed.{Designed}
 use Rattle.fir_lowpass.specs.declared.lowpass.Designed.the-variants.{Ready}
 use Rattle.fir_lowpass.specs.declared.lowpass.Prepared.{Prepared}
 
 -- a list keeps a design's first raw taps
-abbrev pub Keeps : Lowpass → Float → List Float → Type 0
-Keeps l i0 rs = KeepsOf (rawAt (l .fc) (l .window) i0 (l .n)) (l .n) rs
+abbrev pub Caches : Lowpass → Float → List Float → Type 0
+Caches l i0 rs = CachesOf (rawAt (l .fc) (l .window) i0 (l .n)) (l .n) rs
 
 -- an answer that, where it is a design, has the series at its beta
 abbrev pub Normed : Prepared → Type 0
 Normed p = (l : Lowpass) → p .designed ≡ Ready l → p .i0 ≡ normOf (l .window)
 
 -- an answer that is the design d and, where it is one, the series at its beta, and a list that keeps its first raw taps
-pub record Prepares (d : Designed) (r : Prepared) (rs : List Float) : Type 0 where
+pub record PreparesLowpass (d : Designed) (r : Prepared) (rs : List Float) : Type 0 where
   pub is : r .designed ≡ d
   pub kept : Normed r
-  pub raws : (l : Lowpass) → r .designed ≡ Ready l → Keeps l (r .i0) rs
+  pub raws : (l : Lowpass) → r .designed ≡ Ready l → Caches l (r .i0) rs

@@ -1,8 +1,8 @@
--- `fir_sinc::sum::rest_kept` meets its contract. Assumes nothing.
+-- `fir_sinc::sum::rest_cached` meets its contract. Assumes nothing.
 use borrow.Author.Needs.{needs}
 use Rattle.fir_sinc.specs.Taps.{rawAt}
-use Rattle.fir_sinc.proofs.sum.rest_kept.Statement.{statement}
-use Rattle.fir_sinc.proofs.sum.rest_kept.Tie as tie
+use Rattle.fir_sinc.proofs.sum.rest_cached.Statement.{statement}
+use Rattle.fir_sinc.proofs.sum.rest_cached.Tie as tie
 
 keep-rest-requires : tie.Need-keep-rest-requires
 keep-rest-requires c κs = search needs
@@ -20,5 +20,5 @@ returns c =
     let k = c .before .before .before .before .keep-rest .ensures in
     record { is = c .sum-on .ensures (rawAt (a .fc) (a .w) (a .i0) (a .n)) (at .pre .1 .1 .0) k; keeps = k }
 
-pub rest-kept-spec : {M : Type 1} → statement M
-rest-kept-spec = tie.close (tie.spec keep-rest-requires sum-on-requires same-length returns)
+pub rest-cached-spec : {M : Type 1} → statement M
+rest-cached-spec = tie.close (tie.spec keep-rest-requires sum-on-requires same-length returns)

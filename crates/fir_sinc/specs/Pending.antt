@@ -9,8 +9,8 @@ use lib.Ieee.{Float, nan}
 use Rattle.laws.specs.Binary64.{_⊕_}
 use Rattle.laws.specs.Cases.{either}
 use Rattle.laws.specs.Numbers.{lt-or-le}
-use Rattle.fir_cache.specs.Cached.{KeepsOf}
-use Rattle.fir_cache.specs.CachedLaws.{Sofar, taken}
+use Rattle.fir_cache.specs.Cached.{CachesOf}
+use Rattle.fir_cache.specs.CachedLaws.{SumPrefix, taken}
 
 -- how a sum of n goes: `front` of them first, whose values without their window lie from `last` downwards, past them; and of the first `half` these lie where their mirror images go
 pub record Planned (n front last half : ℕ) : Type 0 where
@@ -28,7 +28,7 @@ abbrev pub Mirrors : (ℕ → Float) → ℕ → ℕ → ℕ → List Float → 
 Mirrors h n half i rs = (k : ℕ) → i ≤ k → k < n → n - 1 - k < half → getD rs k nan ≡ h (n - 1 - k)
 
 -- a list with places for n raw values keeps the first i, but for that at p, which waits and is there without its window; the first `half` don't wait, and none does where p is n
-pub record Waits (g h : ℕ → Float) (n half p i : ℕ) (rs : List Float) : Type 0 where
+pub record PendingTap (g h : ℕ → Float) (n half p i : ℕ) (rs : List Float) : Type 0 where
   pub room : n ≤ length rs
   pub after : half ≤ i
   pub late : half ≤ p
@@ -63,29 +63,29 @@ images-more h last i rs v b e t k l m =
     (λ a. let q : k ≡ i = omega arith in ap (λ (j : ℕ). getD (set rs (last - i) v) (last - j) nan) q ∙ getD-set-same rs (last - i) v nan (omega arith) ∙ e ∙ ap h (sym q))
 
 -- a store past those that are kept
-pub kept-past : {g : ℕ → Float} {n : ℕ} {begun raws : List Float} {sum : Float} {i : ℕ} (k : ℕ) (v : Float) → i ≤ k → Sofar g n begun raws sum i → Sofar g n begun (set raws k v) sum i
-kept-past {raws = raws} k v l s =
+pub cached-past : {g : ℕ → Float} {n : ℕ} {begun raws : List Float} {sum : Float} {i : ℕ} (k : ℕ) (v : Float) → i ≤ k → SumPrefix g n begun raws sum i → SumPrefix g n begun (set raws k v) sum i
+cached-past {raws = raws} k v l s =
     record {
       within = s .within;
       same = length-set raws k v ∙ s .same;
-      totals = record { is = s .totals .is; keeps = λ j a b. before raws k j v (omega arith) ∙ s .totals .keeps j a (omega (arith, length-set raws k v)) };
+      summed = record { is = s .summed .is; keeps = λ j a b. before raws k j v (omega arith) ∙ s .summed .keeps j a (omega (arith, length-set raws k v)) };
     }
 
 -- two more, by the four stores of them
-pub two-more : {g h : ℕ → Float} {n front last half : ℕ} {begun raws raws2 : List Float} {sum sum2 : Float} {i : ℕ} {a b v w : Float} → Planned n front last half → i + 1 < front → Sofar g n begun raws sum i → Images h last i raws → v ≡ g i → w ≡ g (i + 1) → a ≡ h i → b ≡ h (i + 1) → (sum2 ≡ sum ⊕ v ⊕ w) × (raws2 ≡ set (set (set (set raws i v) (i + 1) w) (last - i) a) (last - (i + 1)) b) → Sofar g n begun raws2 sum2 (i + 2) × Images h last (i + 2) raws2
+pub two-more : {g h : ℕ → Float} {n front last half : ℕ} {begun raws raws2 : List Float} {sum sum2 : Float} {i : ℕ} {a b v w : Float} → Planned n front last half → i + 1 < front → SumPrefix g n begun raws sum i → Images h last i raws → v ≡ g i → w ≡ g (i + 1) → a ≡ h i → b ≡ h (i + 1) → (sum2 ≡ sum ⊕ v ⊕ w) × (raws2 ≡ set (set (set (set raws i v) (i + 1) w) (last - i) a) (last - (i + 1)) b) → SumPrefix g n begun raws2 sum2 (i + 2) × Images h last (i + 2) raws2
 two-more {h = h} {last = last} {raws = raws} {i = i} {a = a} {b = b} {v = v} {w = w} p f s m ev ew ea eb r =
     let two : i + 2 ≡ i + 1 + 1 = omega arith in
     let l = p .apart in
     let t = taken (taken s (omega (arith, p .within)) ev (refl, refl)) (omega (arith, p .within)) ew (refl, refl) in
     let one = images-before h last i (set raws i v) (i + 1) w (omega arith) (images-before h last i raws i v (omega arith) m) in
     rw (two, r .0, r .1) (
-      kept-past (last - (i + 1)) b (omega arith) (kept-past (last - i) a (omega arith) t),
+      cached-past (last - (i + 1)) b (omega arith) (cached-past (last - i) a (omega arith) t),
       images-more h last (i + 1) (set (set (set raws i v) (i + 1) w) (last - i) a) b (omega arith) eb (images-more h last i (set (set raws i v) (i + 1) w) a (omega arith) ea one),
     )
 
 -- where the first have been worked out
-pub waits-none : {g h : ℕ → Float} {n front last half i : ℕ} {rs : List Float} → Planned n front last half → front ≤ i + 1 → i ≤ n → n ≤ length rs → KeepsOf g i rs → Images h last i rs → Waits g h n half n i rs
-waits-none {h = h} {n = n} {last = last} {half = half} {i = i} {rs = rs} t f b r k m =
+pub pending-none : {g h : ℕ → Float} {n front last half i : ℕ} {rs : List Float} → Planned n front last half → front ≤ i + 1 → i ≤ n → n ≤ length rs → CachesOf g i rs → Images h last i rs → PendingTap g h n half n i rs
+pending-none {h = h} {n = n} {last = last} {half = half} {i = i} {rs = rs} t f b r k m =
     let below : half ≤ i = either (lt-or-le i half) (λ a. absurd (omega (arith, t .mirrored i a .0))) (λ a. a) in
     record {
       room = r;
@@ -101,10 +101,10 @@ waits-none {h = h} {n = n} {last = last} {half = half} {i = i} {rs = rs} t f b r
           ap (λ (z : ℕ). getD rs z nan) (sym e) ∙ m (n - 1 - j) (omega (arith, q .0)) (omega (arith, q .1));
     }
 
-module _ {g h : ℕ → Float} {n half p i : ℕ} {rs : List Float} (t : Waits g h n half p i rs) where
+module _ {g h : ℕ → Float} {n half p i : ℕ} {rs : List Float} (t : PendingTap g h n half p i rs) where
   -- the next value is stored
-  pub waits-more : {v : Float} → i < n → v ≡ g i → Waits g h n half p (i + 1) (set rs i v)
-  waits-more {v = v} l e =
+  pub pending-more : {v : Float} → i < n → v ≡ g i → PendingTap g h n half p (i + 1) (set rs i v)
+  pending-more {v = v} l e =
       record {
         room = omega (arith, t .room, length-set rs i v);
         after = omega (arith, t .after);
@@ -116,8 +116,8 @@ module _ {g h : ℕ → Float} {n half p i : ℕ} {rs : List Float} (t : Waits g
       }
 
   -- it waits, where none does
-  pub waits-next : {v : Float} → i < n → n ≤ p → v ≡ h i → Waits g h n half i (i + 1) (set rs i v)
-  waits-next {v = v} l b e =
+  pub pending-next : {v : Float} → i < n → n ≤ p → v ≡ h i → PendingTap g h n half i (i + 1) (set rs i v)
+  pending-next {v = v} l b e =
       record {
         room = omega (arith, t .room, length-set rs i v);
         after = omega (arith, t .after);
@@ -132,8 +132,8 @@ module _ {g h : ℕ → Float} {n half p i : ℕ} {rs : List Float} (t : Waits g
       k-below k a d = either (lt-or-le k i) (λ z. z) (λ z. absurd (d (omega arith)))
 
   -- the one that waits is stored
-  pub waits-over : {v : Float} → i ≤ n → p < n → v ≡ g p → Waits g h n half n i (set rs p v)
-  waits-over {v = v} l b e =
+  pub pending-over : {v : Float} → i ≤ n → p < n → v ≡ g p → PendingTap g h n half n i (set rs p v)
+  pending-over {v = v} l b e =
       record {
         room = omega (arith, t .room, length-set rs p v);
         after = t .after;
@@ -145,5 +145,5 @@ module _ {g h : ℕ → Float} {n half p i : ℕ} {rs : List Float} (t : Waits g
       }
 
 -- all are kept
-pub waits-all : {g h : ℕ → Float} {n half p i : ℕ} {rs : List Float} → Waits g h n half p i rs → n ≤ i → n ≤ p → KeepsOf g n rs
-waits-all t a b k l m = t .keeps k (omega arith) (λ q. omega arith)
+pub pending-all : {g h : ℕ → Float} {n half p i : ℕ} {rs : List Float} → PendingTap g h n half p i rs → n ≤ i → n ≤ p → CachesOf g n rs
+pending-all t a b k l m = t .keeps k (omega arith) (λ q. omega arith)

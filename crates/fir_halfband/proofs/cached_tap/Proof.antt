@@ -1,12 +1,12 @@
--- `fir_halfband::kept_tap` meets its contract. Assumes nothing.
+-- `fir_halfband::cached_tap` meets its contract. Assumes nothing.
 use mathlib.Core.Path.{sym, ap, _∙_}
 use borrow.Author.Needs.{needs}
 use borrow.Author.Tests.{lt-ltb, le-ltb}
 use lib.Ieee.{Float, ofBits, ofInt}
 use Rattle.laws.specs.Binary64.{_⊘_}
 use Rattle.fir_halfband.specs.Halfband.{tapWith}
-use Rattle.fir_halfband.proofs.kept_tap.Statement.{statement}
-use Rattle.fir_halfband.proofs.kept_tap.Tie as tie
+use Rattle.fir_halfband.proofs.cached_tap.Statement.{statement}
+use Rattle.fir_halfband.proofs.cached_tap.Tie as tie
 
 unscaled-requires : tie.Need-unscaled-requires
 unscaled-requires c κs = search needs
@@ -23,5 +23,5 @@ returns-2 c k =
     let a = c .before .before .args in
     sym (rw (le-ltb (a .k) (a .d .n) (c .if1 .left)))
 
-pub kept-tap-spec : {M : Type 1} → statement M
-kept-tap-spec = tie.close (tie.spec unscaled-requires returns returns-2)
+pub cached-tap-spec : {M : Type 1} → statement M
+cached-tap-spec = tie.close (tie.spec unscaled-requires returns returns-2)
