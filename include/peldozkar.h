@@ -171,7 +171,7 @@ pel_report pel_spec_design(double cutoff, double transition, double attenuation,
  * The taps are mirror images to the bit, for every accepted ticket. Refused, in this order, with `out` as
  * it came:
  *   8   bytes isn't a multiple of 8, both figures in bytes
- *   6   the taps aren't 3 over a multiple of 4, or are more than 2^24
+ *   6   the taps aren't 3 mod 4, or are more than 2^24
  *   4   a beta that isn't finite and not negative
  *   10  a divisor that is 0 or not finite
  * pel_halfband_len says how many taps a transition needs. Example: 5 taps are refused with 6. */

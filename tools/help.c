@@ -33,7 +33,7 @@ static const struct help helps[] = {
      "  --max-taps N       refuse a design of more taps; 2^24 if not said\n" TAP_HELP,
      "spec --cutoff 1000 --transition 200 --attenuation 60 --rate 8000"},
     {"halfband", "a half-band filter by its taps, or by its transition",
-     "  --taps N           how many taps; 3 over a multiple of 4, such as 3, 7 or 11, and at most 2^24\n"
+     "  --taps N           how many taps; 3 mod 4, such as 3, 7 or 11, and at most 2^24\n"
      "  --beta B           the shape of Kaiser's window; finite and not negative\n"
      "  --transition HZ    how wide the transition around a quarter of the rate is; finite and above 0, and\n"
      "                     wide enough for 2^24 taps\n"

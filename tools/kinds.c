@@ -96,7 +96,7 @@ static const char *mean_halfband(const struct ticket *t, const pel_report *r)
     case PEL_BAD_COUNT:
         if (by_transition)
             return "these numbers ask for more than 2^24 taps";
-        return "the number of taps must be 3 over a multiple of 4, such as 3, 7 or 11, and at most 2^24";
+        return "the number of taps must be 3 mod 4, such as 3, 7 or 11, and at most 2^24";
     default:
         return NULL;
     }

@@ -1,5 +1,5 @@
 /* Takes the words of a command line apart into a ticket. A word that isn't wholly a number, a count or a
- * known name is turned down here; whether the number is a good one is the designer's to judge. */
+ * known name is refused here; whether the number is a good one is the designer's to judge. */
 #include "words.h"
 
 #include <ctype.h>

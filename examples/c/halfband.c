@@ -36,6 +36,6 @@ int main(void)
     /* Such a filter has 3 taps, 7, 11 and so on. */
     r = pel_halfband_new(pel_kaiser_beta(attenuation), 9);
     if (r.number == PEL_BAD_COUNT)
-        puts("refused with 6: 9 taps aren't 3 over a multiple of 4");
+        puts("refused with 6: 9 taps aren't 3 mod 4");
     return 0;
 }

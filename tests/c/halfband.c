@@ -66,7 +66,7 @@ static void designs(void)
 
     /* The Rust's example: a length from a transition is one that a half-band has. */
     pel_report r = pel_halfband_len(0.1, 60, 1);
-    expect_count("a length is 3 over a multiple of 4", r.count % 4, 3);
+    expect_count("a length is 3 mod 4", r.count % 4, 3);
     expect_count("and is taken", pel_halfband_new(pel_kaiser_beta(60), r.count).number, 0);
 }
 
@@ -82,7 +82,7 @@ static void examples(void)
     expect_count("23 taps", pel_halfband(pel_kaiser_beta(60), lend(8 * 23), 8 * 23).number, 0);
     near("23 taps add up to 1", sum_of_taps(23), 1.0, 1e-14);
 
-    /* By the limits: 16777219 leaves 3 over a multiple of 4 but is above 2^24, whatever the beta; of 23 taps the beta
+    /* By the limits: 16777219 leaves 3 mod 4 but is above 2^24, whatever the beta; of 23 taps the beta
      * is told. The series at 1000 is past the largest double. */
     PLAIN(pel_halfband_new(5, 16777219), 6);
     PLAIN(pel_halfband_new(-1, 16777219), 6);
@@ -97,7 +97,7 @@ static void refusals(void)
     REFUSED(pel_halfband(5, lend(5), 5), length(0, 5));
     REFUSED(pel_halfband(5, lend(8 * 7 + 1), 8 * 7 + 1), length(56, 57));
 
-    /* The scope document's 5 taps and the Rust's 21: both leave 1 over a multiple of 4. */
+    /* The scope document's 5 taps and the Rust's 21: both leave 1 mod 4. */
     REFUSED(pel_halfband(5, lend(8 * 5), 8 * 5), plain(6));
     REFUSED(pel_halfband(5, lend(8 * 21), 8 * 21), plain(6));
     REFUSED(pel_halfband(5, lend(0), 0), plain(6));

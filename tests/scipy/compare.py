@@ -196,7 +196,7 @@ def kaiser(port):
                              np.nextafter(21, [20, 22]), [0.0, -30.0]]):
         held.add(a, port.kaiser_beta(a), signal.kaiser_beta(float(a)))
 
-    # SciPy rounds up and no more; ours is made odd, and for a half-band 3 over a multiple of 4.
+    # SciPy rounds up and no more; ours is made odd, and for a half-band 3 mod 4.
     order = Held("kaiserord, made odd", "signal.kaiserord", "different", 0)
     length = Held("halfband_len", "signal.kaiserord", "different", 0)
     for _ in range(1000):

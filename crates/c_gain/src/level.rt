@@ -25,7 +25,8 @@ pub struct GainReport {
     pub bandwidth: f64,
 }
 
-// The pattern of the sample whose four bytes begin at `at`. The bytes are read by index, which the proof shows to be in the buffer, so that no test stands in the loop.
+// The pattern of the sample whose four bytes begin at `at`. The bytes are read by index, which the proof shows to be in
+// the buffer, so that no test stands in the loop.
 fn pattern_at(src: &[u8], at: usize) -> u32
     requires { ⌜ at + 4 ≤ length (now src) ⌝ }
     ensures { λ r. ⌜ ofBits binary32 r ≡ singleAt (now (src .entry)) at ⌝ }
@@ -33,12 +34,15 @@ fn pattern_at(src: &[u8], at: usize) -> u32
     wire::join_four(src[at], src[at + 1], src[at + 2], src[at + 3])
 }
 
-// Whether a pattern is a NaN's. Nothing rests on it but time: `wide_of` tests once more, and where this said no the compiler leaves that test out.
+// Whether a pattern is a NaN's. Nothing rests on it but time: `wide_of` tests once more, and where this said no the
+// compiler leaves that test out.
 fn is_nan(n: u32) -> bool {
     n % 2147483648 > 2139095040
 }
 
-// Both figures of a buffer of whole f32s, summed by rising index. A NaN's pattern can't be read as it stands, so that every sample has to be tested; four at a time are, by one branch, and from the first four with a NaN on each by itself.
+// Both figures of a buffer of whole f32s, summed by rising index. A NaN's pattern can't be read as it stands, so that
+// every sample has to be tested; four at a time are, by one branch, and from the first four with a NaN on each by
+// itself.
 fn gain_in(src: &[u8]) -> Gain
     requires { ⌜ length (now src) % 4 ≡ 0 ⌝ }
     ensures { λ r. ⌜ r ≡ gainOf (singles (now (src .entry))) ⌝ }
@@ -72,7 +76,10 @@ fn gain_in(src: &[u8]) -> Gain
     gain_of(n as u64, sum, squares)
 }
 
-// The coherent gain of a window of f32 samples, four bytes each, the lowest first: Σ w / n; and its noise-equivalent bandwidth in bins: n Σ w² / (Σ w)². Both are 0 for no samples; samples that sum to 0 give an infinite bandwidth or NaN. Refused: 8 a length that isn't a multiple of 4, with the length to the last whole sample and the length, in bytes. Example: the samples 0, 0.5, 1, 0.5 give 0.5 and 1.5.
+// The coherent gain of a window of f32 samples, four bytes each, the lowest first: Σ w / n; and its noise-equivalent
+// bandwidth in bins: n Σ w² / (Σ w)². Both are 0 for no samples; samples that sum to 0 give an infinite bandwidth or
+// NaN. Refused: 8 a length that isn't a multiple of 4, with the length to the last whole sample and the length, in
+// bytes. Example: the samples 0, 0.5, 1, 0.5 give 0.5 and 1.5.
 #[no_mangle]
 pub extern "C" fn pel_window_gain(src: &[u8]) -> GainReport
     ensures { λ r. ⌜ r ≡ gainReport (now (src .entry)) ⌝ }

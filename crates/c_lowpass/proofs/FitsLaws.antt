@@ -1,4 +1,5 @@
--- What a writer needs, of a low-pass that was prepared and has as many taps as the buffer has room for. Assumes nothing.
+-- What a writer needs, of a low-pass that was prepared and has as many taps as the buffer has room for. Assumes
+-- nothing.
 use mathlib.Core.Path.{sym, subst}
 use mathlib.Core.List.{List}
 use Prim.Native.Nat.{ℕ}

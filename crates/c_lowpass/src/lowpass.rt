@@ -17,8 +17,11 @@ ghost use Rattle.wire.specs.Bytes.{floatBytes};
 ghost use Rattle.wire.specs.Writes.{Writes};
 ghost use Rattle.c_lowpass.specs.Lowpass.{lowpassCoded, lowpassBytes};
 
-// Judges a design and gives its number of taps as the count and the sum that they are divided by as the value. Windows: 0 Hann, 1 Hamming, 2 Blackman, 3 Kaiser with beta, which the others leave out.
-// Refused, in this order: 7 another window; 1 a rate that isn't finite and positive; 2 with 0, rate/2, cutoff where cutoff/rate isn't between 0 and 1/2; 6 no taps or more than 2^24; 4 a beta that isn't finite and not negative; 10 a sum that is 0 or not finite. Example: (0.25, 1, 0, 0, 1) has the sum 0.5.
+// Judges a design and gives its number of taps as the count and the sum that they are divided by as the value. Windows:
+// 0 Hann, 1 Hamming, 2 Blackman, 3 Kaiser with beta, which the others leave out.
+// Refused, in this order: 7 another window; 1 a rate that isn't finite and positive; 2 with 0, rate/2, cutoff where
+// cutoff/rate isn't between 0 and 1/2; 6 no taps or more than 2^24; 4 a beta that isn't finite and not negative; 10 a
+// sum that is 0 or not finite. Example: (0.25, 1, 0, 0, 1) has the sum 0.5.
 #[no_mangle]
 pub extern "C" fn pel_lowpass_new(
     cutoff: f64,
@@ -36,7 +39,10 @@ pub extern "C" fn pel_lowpass_new(
     }
 }
 
-// Fills the buffer with the taps of a design, eight bytes each, the lowest first, as many as it has room for; answers as pel_lowpass_new. Refused as that, and after 7 a length that isn't a multiple of 8: 8, with the length to the last whole tap and the length, in bytes. A refusal leaves the buffer as it came. Example: (0.25, 1, 0, 0) and 8 bytes write 1.0.
+// Fills the buffer with the taps of a design, eight bytes each, the lowest first, as many as it has room for; answers
+// as pel_lowpass_new. Refused as that, and after 7 a length that isn't a multiple of 8: 8, with the length to the last
+// whole tap and the length, in bytes. A refusal leaves the buffer as it came. Example: (0.25, 1, 0, 0) and 8 bytes
+// write 1.0.
 #[no_mangle]
 pub extern "C" fn pel_lowpass(
     cutoff: f64,

@@ -14,7 +14,10 @@ ghost use Rattle.wire.specs.Bytes.{floatBytes};
 ghost use Rattle.wire.specs.Writes.{Writes};
 ghost use Rattle.c_lowpass.specs.Prototype.{channelizerBytes};
 
-// How many taps Kaiser's estimate has for band edges in channel spacings and an attenuation in dB, as the count; not made odd. Refused, in this order: 6 channels that aren't a power of two from 4 to 256; 2 a passband that isn't finite and positive; 2 a stopband that isn't above it and at most 1.5; 4 with 20, 120, attenuation; 3 where the estimate isn't finite or is above 2^24. Example: (16, 0.5, 1, 60) has 118 taps.
+// How many taps Kaiser's estimate has for band edges in channel spacings and an attenuation in dB, as the count; not
+// made odd. Refused, in this order: 6 channels that aren't a power of two from 4 to 256; 2 a passband that isn't finite
+// and positive; 2 a stopband that isn't above it and at most 1.5; 4 with 20, 120, attenuation; 3 where the estimate
+// isn't finite or is above 2^24. Example: (16, 0.5, 1, 60) has 118 taps.
 #[no_mangle]
 pub extern "C" fn pel_channelizer_taps(
     channels: u64,
@@ -27,7 +30,8 @@ pub extern "C" fn pel_channelizer_taps(
     told_length(fir_channelizer::channelizer_taps(channels, passband, stopband, attenuation))
 }
 
-// How many taps each branch needs, as the count: taps / channels rounded up, refused as pel_channelizer_taps. Example: (16, 0.5, 1, 60) has 8.
+// How many taps each branch needs, as the count: taps / channels rounded up, refused as pel_channelizer_taps. Example:
+// (16, 0.5, 1, 60) has 8.
 #[no_mangle]
 pub extern "C" fn pel_channelizer_taps_per_branch(
     channels: u64,
@@ -45,7 +49,9 @@ pub extern "C" fn pel_channelizer_taps_per_branch(
     ))
 }
 
-// Judges the prototype of channels · branch taps: their number as the count, the sum that they are divided by as the value. Refused, in this order: 6 the channels; 6 a branch that isn't 4 to 32 taps; 2, 2, 4 as pel_channelizer_taps; then as pel_lowpass_new with the cutoff (passband + stopband)/(2 channels) at rate 1 and Kaiser's window.
+// Judges the prototype of channels · branch taps: their number as the count, the sum that they are divided by as the
+// value. Refused, in this order: 6 the channels; 6 a branch that isn't 4 to 32 taps; 2, 2, 4 as pel_channelizer_taps;
+// then as pel_lowpass_new with the cutoff (passband + stopband)/(2 channels) at rate 1 and Kaiser's window.
 #[no_mangle]
 pub extern "C" fn pel_channelizer_lowpass(
     channels: u64,
@@ -65,7 +71,10 @@ pub extern "C" fn pel_channelizer_lowpass(
     ))
 }
 
-// Fills the buffer with the taps of the prototype, eight bytes each, the lowest first; answers as pel_channelizer_lowpass. Refused, in this order: 8 a length that isn't a multiple of 8, with the length to the last whole tap and the length, in bytes; as pel_channelizer_lowpass; 8 a buffer for another number of taps, with both numbers of taps. A refusal leaves the buffer as it came. Example: (16, 8, 0.5, 1, 60) needs 1024 bytes.
+// Fills the buffer with the taps of the prototype, eight bytes each, the lowest first; answers as
+// pel_channelizer_lowpass. Refused, in this order: 8 a length that isn't a multiple of 8, with the length to the last
+// whole tap and the length, in bytes; as pel_channelizer_lowpass; 8 a buffer for another number of taps, with both
+// numbers of taps. A refusal leaves the buffer as it came. Example: (16, 8, 0.5, 1, 60) needs 1024 bytes.
 #[no_mangle]
 pub extern "C" fn pel_channelizer_prototype(
     channels: u64,

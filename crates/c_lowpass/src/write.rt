@@ -9,7 +9,8 @@ ghost use Rattle.wire.specs.Bytes.{floatBytes};
 ghost use Rattle.wire.specs.Writes.{Writes};
 ghost use Rattle.c_lowpass.specs.Sources.{ofLowpass, FitsLowpass};
 
-// Writes the taps of a low-pass that the buffer fits, and tells their number and their divisor; tells a refusal, and leaves the buffer.
+// Writes the taps of a low-pass that the buffer fits, and tells their number and their divisor; tells a refusal, and
+// leaves the buffer.
 pub(crate) fn write_lowpass(p: Prepared, raws: &[f64], out: &mut [u8]) -> Report
     requires { ⌜ FitsLowpass p (now raws) (length (now out)) ⌝ }
     ensures { λ r. ⌜ Writes floatBytes (ofLowpass (p .designed)) (now (out .entry)) r (now (out .exit)) ⌝ }

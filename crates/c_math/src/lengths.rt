@@ -9,7 +9,9 @@ ghost use Rattle.fir_length.specs.Kaiser.{orderOf, halfbandLenOf};
 ghost use Rattle.verdict.specs.Reports.{lengthReport};
 ghost use Rattle.c_math.specs.Reports.{orderReport, delayReport};
 
-// Kaiser's estimate for a ripple in dB: the taps as the count, 1 to 16777217 and odd, and beta as the value. Refused: 4 where the ripple's size isn't finite or is below 8; 3 where 2 transition / rate isn't finite and positive; 3 with 0, rate, transition where the estimate is above 2^24. Example: (60, 100, 8000) has 293 taps.
+// Kaiser's estimate for a ripple in dB: the taps as the count, 1 to 16777217 and odd, and beta as the value. Refused: 4
+// where the ripple's size isn't finite or is below 8; 3 where 2 transition / rate isn't finite and positive; 3 with 0,
+// rate, transition where the estimate is above 2^24. Example: (60, 100, 8000) has 293 taps.
 #[no_mangle]
 pub extern "C" fn pel_kaiserord(ripple: f64, transition: f64, rate: f64) -> Report
     ensures { λ r. ⌜ r ≡ orderReport (orderOf ripple transition rate) ⌝ }
@@ -21,7 +23,8 @@ pub extern "C" fn pel_kaiserord(ripple: f64, transition: f64, rate: f64) -> Repo
     }
 }
 
-// The taps of a half-band filter as the count, 3 to 16777219 and 3 over a multiple of 4. The arguments stand in another order than pel_kaiserord's; refused as that. Example: (100, 60, 8000) has 295 taps.
+// The taps of a half-band filter as the count, 3 to 16777219 and 3 mod 4. The arguments stand in another order than
+// pel_kaiserord's; refused as that. Example: (100, 60, 8000) has 295 taps.
 #[no_mangle]
 pub extern "C" fn pel_halfband_len(transition: f64, attenuation: f64, rate: f64) -> Report
     ensures { λ r. ⌜ r ≡ lengthReport (halfbandLenOf transition attenuation rate) ⌝ }
@@ -29,7 +32,8 @@ pub extern "C" fn pel_halfband_len(transition: f64, attenuation: f64, rate: f64)
     told_length(fir_length::order::halfband_len(transition, attenuation, rate))
 }
 
-// The delay of a linear-phase filter of so many taps, in samples, as the count: (taps − 1)/2 rounded down. Refused: 6 for 0 taps. Example: 293 taps delay by 146.
+// The delay of a linear-phase filter of so many taps, in samples, as the count: (taps − 1)/2 rounded down. Refused: 6
+// for 0 taps. Example: 293 taps delay by 146.
 #[no_mangle]
 pub extern "C" fn pel_delay(taps: u64) -> Report
     ensures { λ r. ⌜ r ≡ delayReport (delayOf taps) ⌝ }

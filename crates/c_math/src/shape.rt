@@ -5,7 +5,8 @@ ghost use Rattle.verdict.specs.Report.{acceptedOf};
 ghost use Rattle.math_bessel.specs.Series.{seriesOf};
 ghost use Rattle.fir_length.specs.Kaiser.{betaOf};
 
-// I0(x): its value, and as the count how many terms it took, 1 to 500. Never refused: NaN gives NaN and an infinity gives infinity, after 500 terms; a sum that overflows is infinity too. Example: 0 has the value 1 and the count 1.
+// I0(x): its value, and as the count how many terms it took, 1 to 500. Never refused: NaN gives NaN and an infinity
+// gives infinity, after 500 terms; a sum that overflows is infinity too. Example: 0 has the value 1 and the count 1.
 #[no_mangle]
 pub extern "C" fn pel_bessel_i0(x: f64) -> Report
     ensures { λ r. ⌜ r ≡ acceptedOf (seriesOf x .terms) (seriesOf x .sum) ⌝ }

@@ -24,7 +24,8 @@ fn told(c: Coded) -> Report
     }
 }
 
-// One tap as a Q15 number, as the value. Refused: 11 with the index 0 and −limit, limit, tap where its size is above the limit, (1 − 1/32768) · 1.01, or it is a NaN. Example: 1 gives 32767, 1.01 is refused.
+// One tap as a Q15 number, as the value. Refused: 11 with the index 0 and −limit, limit, tap where its size is above
+// the limit, (1 − 1/32768) · 1.01, or it is a NaN. Example: 1 gives 32767, 1.01 is refused.
 #[no_mangle]
 pub extern "C" fn pel_q15_tap(tap: f64) -> Report
     ensures { λ r. ⌜ r ≡ codedReport (q15TapOf 0 tap) ⌝ }
@@ -32,7 +33,9 @@ pub extern "C" fn pel_q15_tap(tap: f64) -> Report
     told(fmt_q15::q15::q15_tap(0, tap))
 }
 
-// One coefficient as a Q14 number, floor(16384 x + 0.5), as the value. Refused: 11 with the index 0 and −2, 2 − 1/16384, x where that floor isn't in −32768 to 32767, or x is a NaN. Example: −2 − 2^−15 gives −32768, 2 − 2^−15 is refused.
+// One coefficient as a Q14 number, floor(16384 x + 0.5), as the value. Refused: 11 with the index 0 and −2, 2 −
+// 1/16384, x where that floor isn't in −32768 to 32767, or x is a NaN. Example: −2 − 2^−15 gives −32768, 2 − 2^−15 is
+// refused.
 #[no_mangle]
 pub extern "C" fn pel_q14_from_f64(x: f64) -> Report
     ensures { λ r. ⌜ r ≡ codedReport (q14TapOf 0 x) ⌝ }

@@ -1,4 +1,5 @@
--- What comes of a half-band or a pulse, and what writing its taps needs: the series at its beta, the raw taps that were kept, and room. Definitions only.
+-- What comes of a half-band or a pulse, and what writing its taps needs: the series at its beta, the raw taps that were
+-- kept, and room. Definitions only.
 use Prim.Native.Nat.{ℕ}
 use mathlib.Core.Path.{_≡_}
 use mathlib.Core.List.{List}
@@ -29,7 +30,8 @@ ofGaussian d = Gaussian.outcomeOf d
 abbrev pub ofRrc : RrcDesigned → Outcome
 ofRrc d = Rrc.outcomeOf d
 
--- ---- what a writer needs of a design, where it is one: the series at its beta, a list that keeps its first raw taps, and a buffer of len bytes for its taps
+-- ---- what a writer needs of a design, where it is one: the series at its beta, a list that keeps its first raw taps,
+-- and a buffer of len bytes for its taps
 pub record FitsHalfband (p : HalfbandPrepared) (rs : List Float) (len : ℕ) : Type 0 where
   pub normed : (d : HalfbandDesign) → p .designed ≡ HalfbandDesigned.Ready d → p .i0 ≡ normOf (d .lp .window)
   pub raws : (d : HalfbandDesign) → p .designed ≡ HalfbandDesigned.Ready d → Caches (d .lp) (p .i0) rs

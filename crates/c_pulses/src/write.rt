@@ -12,7 +12,8 @@ ghost use Rattle.wire.specs.Writes.{Writes};
 ghost use Rattle.wire.specs.Writes.{Room};
 ghost use Rattle.c_pulses.specs.Sources.{ofHalfband, ofGaussian, ofRrc, FitsHalfband, FitsGaussian};
 
-// Writes the taps of a half-band that the buffer fits, and tells their number and their divisor; tells a refusal, and leaves the buffer.
+// Writes the taps of a half-band that the buffer fits, and tells their number and their divisor; tells a refusal, and
+// leaves the buffer.
 pub(crate) fn write_halfband(p: HalfbandPrepared, raws: &[f64], out: &mut [u8]) -> Report
     requires { ⌜ FitsHalfband p (now raws) (length (now out)) ⌝ }
     ensures { λ r. ⌜ Writes floatBytes (ofHalfband (p .designed)) (now (out .entry)) r (now (out .exit)) ⌝ }

@@ -19,7 +19,8 @@ pub(crate) fn width(sample: Sample) -> u64
     }
 }
 
-// Stores the sample of a value at `at`; where it doesn't fit wholly, the buffer stays as it is. The width is a constant in each arm, which makes it one store.
+// Stores the sample of a value at `at`; where it doesn't fit wholly, the buffer stays as it is. The width is a constant
+// in each arm, which makes it one store.
 pub(crate) fn store(sample: Sample, out: &mut [u8], at: usize, x: f64)
     ensures { λ _. ⌜ now (out .exit) ≡ putOf (widthOf sample) (now (out .entry)) at (patternOf sample x) ⌝ }
 {

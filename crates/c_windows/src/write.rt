@@ -25,7 +25,10 @@ ghost use Rattle.c_windows.specs.Codes.{symmetryOf};
 ghost use Rattle.c_windows.specs.Samples.{widthOf, sampleBytes, windowBytes};
 ghost use Rattle.wire.specs.Writes.{Writes};
 
-// Fills a buffer of whole samples, sample i at its place. The samples are taken two at a time, since two of Kaiser's series cost little more than one, and two of his roots less than two, and the arguments of the next two are worked out before: where a series ends is a branch that a processor foretells wrongly, and only what stands before it is worked out alongside.
+// Fills a buffer of whole samples, sample i at its place. The samples are taken two at a time, since two of Kaiser's
+// series cost little more than one, and two of his roots less than two, and the arguments of the next two are worked
+// out before: a processor mispredicts where a series ends, and only what stands before that branch is worked out
+// alongside.
 fn put_samples(shape: Shape, i0: f64, d: u64, sample: Sample, out: &mut [u8])
     requires { ⌜ length (now out) % widthOf sample ≡ 0 ⌝ }
     ensures { λ _. ⌜ now (out .exit) ≡ chunks (length (now (out .entry)) / widthOf sample) (λ i. sampleBytes sample (sampleAt shape i0 d i)) ⌝ }
@@ -54,7 +57,8 @@ fn put_samples(shape: Shape, i0: f64, d: u64, sample: Sample, out: &mut [u8])
     }
 }
 
-// Writes as many samples as the buffer has room for and tells how many as the count; tells a refusal, and leaves the buffer.
+// Writes as many samples as the buffer has room for and tells how many as the count; tells a refusal, and leaves the
+// buffer.
 pub(crate) fn write_window(shape: Shape, code: u64, sample: Sample, out: &mut [u8]) -> Report
     ensures { λ r. ⌜ Writes (sampleBytes sample) (windowBytes sample shape (symmetryOf code) (length (now (out .entry)))) (now (out .entry)) r (now (out .exit)) ⌝ }
 {

@@ -28,7 +28,8 @@ sum-cached-more g n sum rs v e t =
       keeps = keeps-more g n rs v e (t .keeps);
     }
 
--- what a loop that takes n values up has after i of them: their sum, and the list that came, as long as it was, with the first of them kept
+-- what a loop that takes n values up has after i of them: their sum, and the list that came, as long as it was, with
+-- the first of them kept
 pub record SumPrefix (g : ℕ → Float) (n : ℕ) (before raws : List Float) (sum : Float) (i : ℕ) : Type 0 where
   pub within : i ≤ n
   pub same : length raws ≡ length before

@@ -1,6 +1,9 @@
--- The prototype low-pass of a channelizer of M channels with L taps a branch; band edges in channel spacings. Definitions only.
---   0 < passband < stopband ≤ 1.5;  the taps needed are ceil((A − 7.95) / (2.285 π width) + 1), width = 2 (stopband − passband)/M
---   the prototype is the low-pass of M L taps with the cutoff (passband + stopband)/(2 M) of the rate and Kaiser's window for A dB
+-- The prototype low-pass of a channelizer of M channels with L taps a branch; band edges in channel spacings.
+-- Definitions only.
+--   0 < passband < stopband ≤ 1.5;  the taps needed are ceil((A − 7.95) / (2.285 π width) + 1), width = 2 (stopband −
+--   passband)/M
+--   the prototype is the low-pass of M L taps with the cutoff (passband + stopband)/(2 M) of the rate and Kaiser's
+--   window for A dB
 use Prim.Native.Nat.{ℕ, _*_}
 use mathlib.Core.Bool.{Bool, cond, _&&_, _||_}
 use lib.Dec.{eqb, leb}

@@ -1,4 +1,5 @@
--- Each outcome of the judgement of a channelizer's prototype, from what the tests said, and what an accepted ticket tells. Assumes nothing.
+-- Each outcome of the judgement of a channelizer's prototype, from what the tests said, and what an accepted ticket
+-- tells. Assumes nothing.
 use mathlib.Core.Path.{_≡_, refl, sym, ap, _∙_, subst}
 use mathlib.Core.Bool.{Bool, true, false, cond, _||_, true≢false}
 use mathlib.Core.List.{List}

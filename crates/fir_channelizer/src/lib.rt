@@ -53,7 +53,8 @@ fn takes_attenuation(attenuation: f64) -> bool
     20.0 <= attenuation && attenuation <= 120.0
 }
 
-// The band edges, in channel spacings, and the attenuation in dB: 2 a passband that isn't finite and positive; 2 a stopband that isn't above it and at most 1.5; 4 with 20, 120, attenuation.
+// The band edges, in channel spacings, and the attenuation in dB: 2 a passband that isn't finite and positive; 2 a
+// stopband that isn't above it and at most 1.5; 4 with 20, 120, attenuation.
 fn check_edges(passband: f64, stopband: f64, attenuation: f64) -> Verdict
     ensures { λ r. ⌜ r ≡ edgesOf passband stopband attenuation ⌝ }
 {
@@ -76,7 +77,8 @@ fn takes_estimate(num: f64) -> bool
     math_numbers::is_finite(num) && num <= 16777216.0
 }
 
-// How many taps Kaiser's estimate has for these edges, not made odd. Refused, in this order: 6 the channels; 2, 2, 4 as the edges; 3 where the estimate isn't finite or is above 2^24. Example: 16 channels, 0.5, 1, 60 dB: 118.
+// How many taps Kaiser's estimate has for these edges, not made odd. Refused, in this order: 6 the channels; 2, 2, 4 as
+// the edges; 3 where the estimate isn't finite or is above 2^24. Example: 16 channels, 0.5, 1, 60 dB: 118.
 pub fn channelizer_taps(channels: u64, passband: f64, stopband: f64, attenuation: f64) -> Length
     ensures { λ r. ⌜ r ≡ channelizerTapsOf channels passband stopband attenuation ⌝ }
 {
@@ -98,7 +100,8 @@ pub fn channelizer_taps(channels: u64, passband: f64, stopband: f64, attenuation
     }
 }
 
-// How many taps a branch needs, taps / channels rounded up; refused as `channelizer_taps`. Example: 16 channels, 0.5, 1, 60 dB: 8.
+// How many taps a branch needs, taps / channels rounded up; refused as `channelizer_taps`. Example: 16 channels, 0.5,
+// 1, 60 dB: 8.
 pub fn channelizer_taps_per_branch(
     channels: u64,
     passband: f64,
@@ -130,7 +133,9 @@ fn refused(why: Refusal) -> Prepared
     }
 }
 
-// The prototype, channels · branch taps, with the series at its beta: the cutoff lies half way between the edges. Refused, in this order: 6 the channels; 6 a branch that isn't 4 to 32 taps; 2, 2, 4 as the edges; then as a low-pass at rate 1.
+// The prototype, channels · branch taps, with the series at its beta: the cutoff lies half way between the edges.
+// Refused, in this order: 6 the channels; 6 a branch that isn't 4 to 32 taps; 2, 2, 4 as the edges; then as a low-pass
+// at rate 1.
 // The first raw taps are left in `raws`, as many as it has places.
 pub fn prepare(
     channels: u64,
@@ -214,7 +219,8 @@ pub fn fitted(
     }
 }
 
-// Fills the buffer, which must have channels · branch elements; refused as `fitted`, with the buffer as it came. Example: 16 channels of 8 taps, 0.5, 1, 60 dB: 128 taps.
+// Fills the buffer, which must have channels · branch elements; refused as `fitted`, with the buffer as it came.
+// Example: 16 channels of 8 taps, 0.5, 1, 60 dB: 128 taps.
 pub fn channelizer_prototype(
     channels: u64,
     branch: u64,

@@ -12,7 +12,8 @@ ghost use Rattle.fir_gaussian.specs.Gaussian.{btTaken, spanTaken, sample
 
 const LN_2: f64 = 0.6931471805599453;
 
-// A design: the exponent 2 π² bt² / ln 2, the samples of a symbol, the middle, how many taps, and the sum that they are divided by.
+// A design: the exponent 2 π² bt² / ln 2, the samples of a symbol, the middle, how many taps, and the sum that they are
+// divided by.
 pub struct Gaussian {
     pub a: f64,
     pub sps: f64,
@@ -57,7 +58,8 @@ fn raw_at(a: f64, sps: f64, mid: f64, i: u64) -> f64
     math_exp::exp::exp(-(a * (x * x)))
 }
 
-// The sum of the raw taps, by rising index from +0. As many of them as `raws` has places are kept there, so that they needn't be worked out again.
+// The sum of the raw taps, by rising index from +0. As many of them as `raws` has places are kept there, so that they
+// needn't be worked out again.
 fn total(a: f64, sps: f64, mid: f64, n: u64, raws: &mut [f64]) -> f64
     requires { ⌜ n ≤ 2 ^ 24 ⌝ }
     ensures { λ r. ⌜ SumCached (rawAt a sps mid) n r (now (raws .exit)) ⌝ }
@@ -73,7 +75,9 @@ fn total(a: f64, sps: f64, mid: f64, n: u64, raws: &mut [f64]) -> f64
     sum
 }
 
-// The design for a bandwidth bt of the symbol rate, sps samples a symbol and a span of so many symbols: span sps + 1 taps. Refused, in this order: 5 with 0.2, 1, bt; 6 with 2, 8, span; 6 with 2, (2^24 − 1)/span rounded down, sps. The span is tested before the samples, so that no product can overflow.
+// The design for a bandwidth bt of the symbol rate, sps samples a symbol and a span of so many symbols: span sps + 1
+// taps. Refused, in this order: 5 with 0.2, 1, bt; 6 with 2, 8, span; 6 with 2, (2^24 − 1)/span rounded down, sps. The
+// span is tested before the samples, so that no product can overflow.
 // The first raw taps are left in `raws`, as many as it has places.
 pub fn prepare(bt: f64, sps: u64, span: u64, raws: &mut [f64]) -> GaussianDesigned
     ensures { λ r. ⌜ PreparesGaussian (gaussianOf bt sps span) r (now (raws .exit)) ⌝ }

@@ -1,4 +1,4 @@
--- The half-band of n taps, n being 3 over a multiple of 4. Definitions only.
+-- The half-band of n taps, n mod 4 = 3. Definitions only.
 --   l is the low-pass of n taps with the cutoff at a quarter of the rate and Kaiser's window, m = (n − 1)/2 the middle;
 --   h[k] = 0 where |k − m| is even and not 0, else l[k];  then h[n − 1 − k] = h[k] for k < m;  tap k is h[k] / Σ h
 use Prim.Native.Nat.{ℕ, _+_, _-_, _/_, _%_, min}
@@ -76,7 +76,8 @@ unfoldable pub tapOf : HalfbandDesign → ℕ → Float
 unfolding tapWith
 tapOf d k = tapWith d (normOf (d .lp .window)) k
 
--- an answer that is the design d and, where it is one, the series at its beta, and a list that keeps the low-pass's first raw taps
+-- an answer that is the design d and, where it is one, the series at its beta, and a list that keeps the low-pass's
+-- first raw taps
 pub record PreparesHalfband (d : HalfbandDesigned) (r : HalfbandPrepared) (rs : List Float) : Type 0 where
   pub is : r .designed ≡ d
   pub kept : (h : HalfbandDesign) → r .designed ≡ Ready h → r .i0 ≡ normOf (h .lp .window)

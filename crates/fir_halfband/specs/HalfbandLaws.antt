@@ -1,4 +1,5 @@
--- Each outcome of the judgement of a half-band, from what the tests said, and what an accepted ticket tells. Assumes nothing.
+-- Each outcome of the judgement of a half-band, from what the tests said, and what an accepted ticket tells. Assumes
+-- nothing.
 use mathlib.Core.Path.{_≡_, refl, sym, ap, _∙_, subst}
 use mathlib.Core.Bool.{Bool, true, false, cond}
 use mathlib.Core.List.{List}

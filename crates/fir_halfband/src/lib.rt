@@ -1,4 +1,5 @@
-// Half-band filters: every second tap but the middle one is zero, the right half mirrors the left, and the taps add up to 1.
+// Half-band filters: every second tap but the middle one is zero, the right half mirrors the left, and the taps add up
+// to 1.
 use fir_lowpass::lowpass::Designed;
 use fir_lowpass::lowpass::Lowpass;
 use fir_lowpass::lowpass::is_usable;
@@ -32,7 +33,7 @@ pub struct HalfbandPrepared {
     pub i0: f64,
 }
 
-// Whether a half-band has n taps: 3 over a multiple of 4.
+// Whether a half-band has n taps: n mod 4 = 3.
 fn takes_length(n: u64) -> bool
     ensures { λ r. ⌜ r ≡ lengthTaken n ⌝ }
 {
@@ -49,7 +50,8 @@ fn is_zero_at(n: u64, k: u64) -> bool
     d != 0 && d % 2 == 0
 }
 
-// Tap k of n before the last division: zero, or the tap of the low-pass at k or at its mirror image, whichever comes first. `raws` keeps the first raw taps of the low-pass.
+// Tap k of n before the last division: zero, or the tap of the low-pass at k or at its mirror image, whichever comes
+// first. `raws` keeps the first raw taps of the low-pass.
 fn unscaled(lp: Lowpass, i0: f64, raws: &[f64], n: u64, k: u64) -> f64
     requires { ⌜ k < n ⌝ }
     ensures { λ r. ⌜ (Caches lp i0 (now (raws .entry)) → r ≡ unscaledWith lp i0 n k) ⌝ }
@@ -85,7 +87,9 @@ fn refused(why: Refusal) -> HalfbandPrepared
     }
 }
 
-// The design of a half-band of n taps with Kaiser's window, with the series at beta. Refused, in this order: 6 where n isn't 3 over a multiple of 4; as a low-pass of n taps with the cutoff at a quarter of the rate: 6, 4, 10; 10 where the sum of the taps is 0 or not finite.
+// The design of a half-band of n taps with Kaiser's window, with the series at beta. Refused, in this order: 6 where n
+// isn't 3 mod 4; as a low-pass of n taps with the cutoff at a quarter of the rate: 6, 4, 10; 10 where the sum of the
+// taps is 0 or not finite.
 // The first raw taps are left in `raws`, as many as it has places.
 pub fn prepare(beta: f64, n: u64, raws: &mut [f64]) -> HalfbandPrepared
     ensures { λ r. ⌜ PreparesHalfband (halfbandOf beta n) r (now (raws .exit)) ⌝ }
@@ -114,7 +118,8 @@ pub fn prepare(beta: f64, n: u64, raws: &mut [f64]) -> HalfbandPrepared
     }
 }
 
-// Tap k of a design, i0 being the series at its beta and `raws` keeping the first raw taps of its low-pass; 0 past the last tap.
+// Tap k of a design, i0 being the series at its beta and `raws` keeping the first raw taps of its low-pass; 0 past the
+// last tap.
 pub fn cached_tap(d: HalfbandDesign, i0: f64, raws: &[f64], k: u64) -> f64
     ensures { λ r. ⌜ (Caches (d .lp) i0 (now (raws .entry)) → r ≡ tapWith d i0 k) ⌝ }
 {

@@ -1,4 +1,5 @@
--- Kaiser's formulas for the shape of his window and the number of taps (J. F. Kaiser, "Nonrecursive digital filter design using the I0-sinh window function", 1974). Definitions only.
+-- Kaiser's formulas for the shape of his window and the number of taps (J. F. Kaiser, "Nonrecursive digital filter
+-- design using the I0-sinh window function", 1974). Definitions only.
 --   beta(a) = 0.1102 (a − 8.7) for a > 50;  0.5842 (a − 21)^0.4 + 0.07886 (a − 21) for 21 ≤ a ≤ 50;  0 else
 --   N = ceil((A − 7.95) / (2.285 · π · width) + 1), made odd, with A = |ripple| and width = 2 · transition / rate
 use Prim.Native.Nat.{ℕ, _+_, _%_}
@@ -48,7 +49,7 @@ orderOf ripple transition rate =
     (Order.Refused (Plain badTransition))))
     (Order.Refused (Plain badAttenuation))
 
--- ---- the half-band's: 3 over a multiple of 4
+-- ---- the half-band's: 3 mod 4
 unfoldable pub halfbandUp : ℕ → ℕ
 halfbandUp n = cond (eqb (n % 4) 1) (n + 2) n
 

@@ -32,8 +32,11 @@ fn odd_taps(num: f64) -> u64
     if n % 2 == 0 { n + 1 } else { n }
 }
 
-// Taps and beta for a ripple in dB and a transition at a rate, width = 2 transition / rate: n = ceil((A − 7.95) / 2.285 / (π width) + 1), made odd, and beta for A, the size of the ripple.
-// Refused: 4 where A is not finite or below 8; 3 where the width is not finite and positive; 3 with 0, rate, transition where the estimate is above 2^24. So 16777217 taps can be answered, and two negative signs are taken. Example: (60, −100, −8000) has 293 taps.
+// Taps and beta for a ripple in dB and a transition at a rate, width = 2 transition / rate: n = ceil((A − 7.95) / 2.285
+// / (π width) + 1), made odd, and beta for A, the size of the ripple.
+// Refused: 4 where A is not finite or below 8; 3 where the width is not finite and positive; 3 with 0, rate, transition
+// where the estimate is above 2^24. So 16777217 taps can be answered, and two negative signs are taken. Example: (60,
+// −100, −8000) has 293 taps.
 pub fn kaiserord(ripple: f64, transition: f64, rate: f64) -> Order
     ensures { λ r. ⌜ r ≡ orderOf ripple transition rate ⌝ }
 {
@@ -57,7 +60,8 @@ pub fn kaiserord(ripple: f64, transition: f64, rate: f64) -> Order
     Order::Taps(n, beta)
 }
 
-// The taps of a half-band filter: kaiserord's, and two more where that leaves 1 over a multiple of 4. The arguments stand in the order of the Rust. Refused as kaiserord. Example: (−100, 60, −8000) has 295 taps.
+// The taps of a half-band filter: kaiserord's, and two more where that leaves 1 mod 4. The arguments stand in the order
+// of the Rust. Refused as kaiserord. Example: (−100, 60, −8000) has 295 taps.
 pub fn halfband_len(transition: f64, attenuation: f64, rate: f64) -> Length
     ensures { λ r. ⌜ r ≡ halfbandLenOf transition attenuation rate ⌝ }
 {

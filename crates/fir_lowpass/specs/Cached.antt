@@ -1,4 +1,5 @@
--- What stays from the sum of the raw taps to the division: the series at beta, and the first raw taps in a list. Definitions only.
+-- What stays from the sum of the raw taps to the division: the series at beta, and the first raw taps in a list.
+-- Definitions only.
 use mathlib.Core.Path.{_≡_}
 use mathlib.Core.List.{List}
 use lib.Ieee.{Float}

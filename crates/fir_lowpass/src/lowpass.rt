@@ -80,7 +80,9 @@ fn refused(why: Refusal) -> Prepared
     }
 }
 
-// The design of a low-pass, with the series at beta. Refused, in this order: 1 a rate that isn't finite and positive; 2 with 0, rate/2, cutoff where cutoff/rate isn't between 0 and 1/2; 6 no taps or more than 2^24; 4 a beta that isn't finite and not negative; 10 a sum of the raw taps that is 0 or not finite.
+// The design of a low-pass, with the series at beta. Refused, in this order: 1 a rate that isn't finite and positive; 2
+// with 0, rate/2, cutoff where cutoff/rate isn't between 0 and 1/2; 6 no taps or more than 2^24; 4 a beta that isn't
+// finite and not negative; 10 a sum of the raw taps that is 0 or not finite.
 // The first raw taps are left in `raws`, as many as it has places.
 pub fn prepare(cutoff: f64, rate: f64, window: Window, n: u64, raws: &mut [f64]) -> Prepared
     ensures { λ r. ⌜ PreparesLowpass (lowpassOf cutoff rate window n) r (now (raws .exit)) ⌝ }
@@ -196,7 +198,8 @@ pub fn finish(p: Prepared, taps: &mut [f64]) -> Verdict
     }
 }
 
-// The low-pass of as many taps as the buffer has elements; refused as `prepare`, with the buffer as it came. Example: Hann, cutoff 0.25 at rate 1: one tap is 1, two are refused with 10.
+// The low-pass of as many taps as the buffer has elements; refused as `prepare`, with the buffer as it came. Example:
+// Hann, cutoff 0.25 at rate 1: one tap is 1, two are refused with 10.
 pub fn firwin_lowpass(cutoff: f64, rate: f64, window: Window, taps: &mut [f64]) -> Verdict
     ensures { λ r. ⌜ Fills (outcomeOf (lowpassOf cutoff rate window (length (now (taps .entry))))) (now (taps .entry)) r (now (taps .exit)) ⌝ }
 {

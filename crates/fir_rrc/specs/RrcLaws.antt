@@ -1,4 +1,5 @@
--- Each outcome of the judgement of a root-raised-cosine pulse, from what the tests said, and how few taps are taken. Assumes nothing.
+-- Each outcome of the judgement of a root-raised-cosine pulse, from what the tests said, and how few taps are taken.
+-- Assumes nothing.
 use mathlib.Core.Path.{_≡_, refl, ap, _∙_}
 use mathlib.Core.Bool.{Bool, true, false, cond}
 use Prim.Native.Nat.{ℕ, _+_, _*_, _≤_}

@@ -42,7 +42,8 @@ fn takes_span(span: u64) -> bool
     4 <= span && span <= 32
 }
 
-// How many taps: span · sps + 1. Refused, in this order: 6 with 2, 1024, sps; 6 with 4, 32, span. Example: (2, 4) has 9.
+// How many taps: span · sps + 1. Refused, in this order: 6 with 2, 1024, sps; 6 with 4, 32, span. Example: (2, 4) has
+// 9.
 pub fn rrc_len(sps: u64, span: u64) -> Length
     ensures { λ r. ⌜ r ≡ rrcLenOf sps span ⌝ }
 {
@@ -136,7 +137,8 @@ fn energy(b: f64, sps: u64, n: u64) -> f64
 }
 
 impl Rrc {
-    // The design for a roll-off, sps samples a symbol and a span of so many symbols. Refused, in this order: 5 with 0.05, 1, rolloff; then as `rrc_len`, the samples first.
+    // The design for a roll-off, sps samples a symbol and a span of so many symbols. Refused, in this order: 5 with
+    // 0.05, 1, rolloff; then as `rrc_len`, the samples first.
     pub fn new(rolloff: f64, sps: u64, span: u64) -> RrcDesigned
         ensures { λ r. ⌜ r ≡ rrcOf rolloff sps span ⌝ }
     {

@@ -1,4 +1,5 @@
--- The raw taps of a design in a list: the first are there, the rest come by their mirror images or two at a time, and one may wait for the next. Over any raw values g, and any values h of them without their window. Assumes nothing.
+-- The raw taps of a design in a list: the first are there, the rest come by their mirror images or two at a time, and
+-- one may wait for the next. Over any raw values g, and any values h of them without their window. Assumes nothing.
 use mathlib.Core.Path.{_≡_, refl, sym, ap, _∙_}
 use mathlib.Core.List.{List}
 use Prim.Native.Nat.{ℕ, _+_, _*_, _-_, _^_, _<_, _≤_}
@@ -12,7 +13,8 @@ use Rattle.laws.specs.Numbers.{lt-or-le}
 use Rattle.fir_cache.specs.Cached.{CachesOf}
 use Rattle.fir_cache.specs.CachedLaws.{SumPrefix, taken}
 
--- how a sum of n goes: `front` of them first, whose values without their window lie from `last` downwards, past them; and of the first `half` these lie where their mirror images go
+-- how a sum of n goes: `front` of them first, whose values without their window lie from `last` downwards, past them;
+-- and of the first `half` these lie where their mirror images go
 pub record Planned (n front last half : ℕ) : Type 0 where
   pub within : front ≤ n
   pub apart : 2 * front ≤ last + 1
@@ -27,7 +29,8 @@ Images h last i rs = (k : ℕ) → k < i → last - k < length rs → getD rs (l
 abbrev pub Mirrors : (ℕ → Float) → ℕ → ℕ → ℕ → List Float → Type 0
 Mirrors h n half i rs = (k : ℕ) → i ≤ k → k < n → n - 1 - k < half → getD rs k nan ≡ h (n - 1 - k)
 
--- a list with places for n raw values keeps the first i, but for that at p, which waits and is there without its window; the first `half` don't wait, and none does where p is n
+-- a list with places for n raw values keeps the first i, but for that at p, which waits and is there without its
+-- window; the first `half` don't wait, and none does where p is n
 pub record PendingTap (g h : ℕ → Float) (n half p i : ℕ) (rs : List Float) : Type 0 where
   pub room : n ≤ length rs
   pub after : half ≤ i

@@ -1,4 +1,5 @@
--- The way of the code to a window at a tap, in three steps, and that it leads to the window; and with the ideal tap to the raw one. Assumes nothing.
+-- The way of the code to a window at a tap, in three steps, and that it leads to the window; and with the ideal tap to
+-- the raw one. Assumes nothing.
 use mathlib.Core.Path.{_≡_, refl, sym, ap, _∙_}
 use mathlib.Core.Bool.{Bool, cond}
 use Prim.Native.Nat.{ℕ, _-_}

@@ -32,7 +32,8 @@ fn take(sum: f64, i: u64, v: f64, raws: &mut [f64]) -> f64
     sum + v
 }
 
-// Takes raw taps i and i + 1 up, v and w, and stores what they are without their window, a and b, at the places `last` − i and before.
+// Takes raw taps i and i + 1 up, v and w, and stores what they are without their window, a and b, at the places `last`
+// − i and before.
 fn take_two(sum: f64, i: u64, v: f64, w: f64, last: u64, a: f64, b: f64, raws: &mut [f64]) -> f64
     requires { ⌜ i < last ⌝ ∗ ⌜ last < 2 ^ 25 ⌝ }
     ensures { λ r. ⌜ r ≡ sum ⊕ v ⊕ w ⌝ ∗ ⌜ now (raws .exit) ≡ set (set (set (set (now (raws .entry)) i v) (i + 1) w) (last - i) a) (last - (i + 1)) b ⌝ }
@@ -66,7 +67,8 @@ struct Near {
     same: bool,
 }
 
-// Tap i without a window. Its mirror image is tap n − 1 − i; where that is one of the first `half`, `raws` has what it is without a window at i, and where the sinc is seen to be even there, the two are the same.
+// Tap i without a window. Its mirror image is tap n − 1 − i; where that is one of the first `half`, `raws` has what it
+// is without a window at i, and where the sinc is seen to be even there, the two are the same.
 fn ideal_near(fc: f64, n: u64, half: u64, i: u64, raws: &[f64]) -> Near
     requires { ⌜ n ≤ 2 ^ 24 ⌝ ∗ ⌜ n ≤ length (now raws) ⌝ ∗ ⌜ i < n ⌝ ∗ ⌜ Mirrors (idealAt fc n) n half i (now raws) ⌝ }
     ensures { λ r. ⌜ r .ideal ≡ idealAt fc n i ⌝ ∗ ⌜ (r .same ≡ true → IsMirrored fc n half i) ⌝ }
@@ -95,7 +97,11 @@ fn windows_at(w: Window, i0: f64, n: u64, i: u64, j: u64) -> Pair
     values_of(w, i0, x.first, x.second)
 }
 
-// Caches raw tap i. The taps of a filter are mirror images, but their bits needn't be: where a place in the window is rounded otherwise on the other side, the last bits part. Where they are seen to be the same, as about three in four of Kaiser's taps are, the tap is that of its mirror image. Else it waits for another, or is worked out with the one that waits: two windows together cost little more than one. p is the one that waits, n where none does, and at its place `raws` has it without its window; the answer is p of the next tap.
+// Caches raw tap i. The taps of a filter are mirror images, but their bits needn't be: where a place in the window is
+// rounded otherwise on the other side, the last bits part. Where they are seen to be the same, as about three in four
+// of Kaiser's taps are, the tap is that of its mirror image. Else it waits for another, or is worked out with the one
+// that waits: two windows together cost little more than one. p is the one that waits, n where none does, and at its
+// place `raws` has it without its window; the answer is p of the next tap.
 fn keep_next(
     fc: f64,
     w: Window,
@@ -158,7 +164,8 @@ fn sum_on(begun: f64, list: &[f64], from: u64, n: u64) -> f64
     sum
 }
 
-// The sum of n raw taps, from that of the first `from` of them, where `raws` has a place for all: there they are kept first.
+// The sum of n raw taps, from that of the first `from` of them, where `raws` has a place for all: there they are kept
+// first.
 fn rest_cached(
     fc: f64,
     w: Window,
@@ -191,14 +198,16 @@ fn rest_taken(fc: f64, w: Window, i0: f64, n: u64, from: u64, begun: f64, raws: 
     sum
 }
 
-// How a sum of raw taps goes: the first `front` are worked out two at a time, and what tap i is without its window goes to the place `last` − i; of the first `half` that is the place of their mirror images.
+// How a sum of raw taps goes: the first `front` are worked out two at a time, and what tap i is without its window goes
+// to the place `last` − i; of the first `half` that is the place of their mirror images.
 struct Plan {
     front: u64,
     last: u64,
     half: u64,
 }
 
-// A Kaiser design whose raw taps are all kept has only its first half worked out so, since most of the others are then at hand; any other all of its taps, and the places are past them.
+// A Kaiser design whose raw taps are all kept has only its first half worked out so, since most of the others are then
+// at hand; any other all of its taps, and the places are past them.
 fn plan_of(w: Window, n: u64, room: u64) -> Plan
     requires { ⌜ 0 < n ⌝ ∗ ⌜ n ≤ 2 ^ 24 ⌝ }
     ensures { λ r. ⌜ Planned n (r .front) (r .last) (r .half) ⌝ }
@@ -224,7 +233,10 @@ fn plan_of(w: Window, n: u64, room: u64) -> Plan
     }
 }
 
-// The sum of the raw taps, by rising index from +0. As many of them as `raws` has places are kept there, so that they needn't be worked out again. The first are taken two at a time, since two of Kaiser's series cost little more than one, and two of his roots less than two. What else they need, and the arguments of the next two, stands before the series: where these end is a branch that a processor foretells wrongly, and only what comes before it is worked out alongside.
+// The sum of the raw taps, by rising index from +0. As many of them as `raws` has places are kept there, so that they
+// needn't be worked out again. The first are taken two at a time, since two of Kaiser's series cost little more than
+// one, and two of his roots less than two. What else they need, and the arguments of the next two, stands before the
+// series: a processor mispredicts where these end, and only what comes before that branch is worked out alongside.
 fn summed(fc: f64, w: Window, i0: f64, n: u64, raws: &mut [f64]) -> f64
     requires { ⌜ 0 < n ⌝ ∗ ⌜ n ≤ 2 ^ 24 ⌝ }
     ensures { λ r. ⌜ SumCached (rawAt fc w i0 n) n r (now (raws .exit)) ⌝ }

@@ -1,5 +1,6 @@
 -- A low-pass by its specification: cutoff, transition and attenuation at a rate. Definitions only.
---   0 < transition,  0 < cutoff ≤ rate/2 − transition/2;  taps and beta by Kaiser's formulas, at most as many as the cap
+--   0 < transition,  0 < cutoff ≤ rate/2 − transition/2;  taps and beta by Kaiser's formulas, at most as many as the
+--   cap
 use Prim.Native.Nat.{ℕ}
 use mathlib.Core.Bool.{Bool, cond, _&&_}
 use lib.Dec.{eqb, ltb}

@@ -50,7 +50,9 @@ fn capped(order: Order, cap: u64) -> Order
     }
 }
 
-// Taps and beta of a specification at a rate. Refused, in this order: 1 a rate that isn't finite and positive; 3 with 0, rate/2, transition where that isn't; 2 with 0, (rate − transition)/2, cutoff where the cutoff isn't above 0 and at most that; 4, 3, 3 as kaiserord; 9 more taps than the cap.
+// Taps and beta of a specification at a rate. Refused, in this order: 1 a rate that isn't finite and positive; 3 with
+// 0, rate/2, transition where that isn't; 2 with 0, rate/2 − transition/2, cutoff where the cutoff isn't above 0 and at
+// most that; 4, 3, 3 as kaiserord; 9 more taps than the cap.
 pub fn spec_order(spec: DesignSpec, rate: f64, cap: u64) -> Order
     ensures { λ r. ⌜ r ≡ specOrderOf spec rate cap ⌝ }
 {
@@ -69,7 +71,8 @@ pub fn spec_order(spec: DesignSpec, rate: f64, cap: u64) -> Order
     capped(kaiserord(spec.attenuation, transition, rate), cap)
 }
 
-// The design for a buffer of `len` elements, with the series at beta: refused as `spec_order`, then 8 where the taps are not `len`, then as a low-pass.
+// The design for a buffer of `len` elements, with the series at beta: refused as `spec_order`, then 8 where the taps
+// are not `len`, then as a low-pass.
 // The first raw taps are left in `raws`, as many as it has places.
 pub fn spec_prepare(spec: DesignSpec, rate: f64, cap: u64, len: u64, raws: &mut [f64]) -> Prepared
     ensures { λ r. ⌜ PreparesLowpass (specDesignOf spec rate cap len) r (now (raws .exit)) ⌝ }
@@ -94,7 +97,8 @@ pub fn spec_prepare(spec: DesignSpec, rate: f64, cap: u64, len: u64, raws: &mut 
 }
 
 impl DesignSpec {
-    // How many taps, odd: refused as `spec_order`. Example: 60 dB, transition 100, cutoff 1000 at rate 8000 needs 293, so a cap of 292 gives 9.
+    // How many taps, odd: refused as `spec_order`. Example: 60 dB, transition 100, cutoff 1000 at rate 8000 needs 293,
+    // so a cap of 292 gives 9.
     pub fn num_taps(self, rate: f64, cap: u64) -> Length
         ensures { λ r. ⌜ r ≡ numTapsOf self rate cap ⌝ }
     {

@@ -1,6 +1,7 @@
 -- One second-order section of the Audio EQ Cookbook (R. Bristow-Johnson), divided by a0. Definitions only.
 --   w0 = 2 π f0/fs,  c = cos w0,  alpha = sin w0 / (2 q);  a = (1 + alpha, −2 c, 1 − alpha)
---   low-pass b = ((1 − c)/2, 1 − c, (1 − c)/2);  high-pass ((1 + c)/2, −(1 + c), (1 + c)/2);  band-pass (alpha, 0, −alpha);  notch (1, −2 c, 1)
+--   low-pass b = ((1 − c)/2, 1 − c, (1 − c)/2);  high-pass ((1 + c)/2, −(1 + c), (1 + c)/2);  band-pass (alpha, 0,
+--   −alpha);  notch (1, −2 c, 1)
 use mathlib.Core.Bool.{Bool, false, cond, _&&_}
 use mathlib.Core.List.{List, [], _∷_}
 use lib.Ieee.{Float, inf, neg, lt}

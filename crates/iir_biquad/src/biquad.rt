@@ -62,7 +62,9 @@ fn section(response: Response, c: f64, alpha: f64) -> [f64; 5]
     }
 }
 
-// The section for a centre frequency and a quality q at a rate: w0 = 2 π centre/rate, alpha = sin w0 / (2 q). Refused, in this order: 2 with 0, rate/2, centre where the centre isn't between 0 and half of a finite rate, so a bad rate is 2 too; 5 with 0, infinity, q where q isn't finite and positive.
+// The section for a centre frequency and a quality q at a rate: w0 = 2 π centre/rate, alpha = sin w0 / (2 q). Refused,
+// in this order: 2 with 0, rate/2, centre where the centre isn't between 0 and half of a finite rate, so a bad rate is
+// 2 too; 5 with 0, infinity, q where q isn't finite and positive.
 pub fn biquad_coefs(response: Response, centre: f64, q: f64, rate: f64) -> Biquad
     ensures { λ r. ⌜ r ≡ biquadOf response centre q rate ⌝ }
 {

@@ -20,14 +20,16 @@ fn takes_constant(tau: f64) -> bool
     0.0 < tau && tau <= 0.001
 }
 
-// Whether a rate is finite and at least 40 kHz. What is at least that is neither a NaN nor below, so that only infinity is left to test.
+// Whether a rate is finite and at least 40 kHz. What is at least that is neither a NaN nor below, so that only infinity
+// is left to test.
 fn takes_rate(rate: f64) -> bool
     ensures { λ r. ⌜ r ≡ rateTaken rate ⌝ }
 {
     40000.0 <= rate && rate < 1.0 / 0.0
 }
 
-// (1 + s tau)/(1 + s tau_p), the pole at rate/2.4, by the bilinear transform with K = 2 rate. Refused, in this order: 5 with 0, 0.001, tau; 1 with 40000, infinity, rate.
+// (1 + s tau)/(1 + s tau_p), the pole at rate/2.4, by the bilinear transform with K = 2 rate. Refused, in this order: 5
+// with 0, 0.001, tau; 1 with 40000, infinity, rate.
 pub fn preemphasis_coefs(tau: f64, rate: f64) -> Preemphasis
     ensures { λ r. ⌜ r ≡ preemphasisOf tau rate ⌝ }
 {

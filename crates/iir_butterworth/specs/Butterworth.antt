@@ -1,4 +1,5 @@
--- Butterworth filters of even order as sections of the cookbook, five numbers each, one after the other. Definitions only.
+-- Butterworth filters of even order as sections of the cookbook, five numbers each, one after the other. Definitions
+-- only.
 --   section k = 1 .. order/2 has the quality 1 / (2 cos((2 k − 1) π / (2 order)))
 use Prim.Native.Nat.{ℕ, _+_, _*_, _/_, _%_}
 use mathlib.Core.Bool.{Bool, true, false, cond, _&&_}

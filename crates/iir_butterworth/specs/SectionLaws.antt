@@ -1,4 +1,5 @@
--- Laws of sections: every section has five numbers, they are stored one after the other, and every quality of a Butterworth filter is taken. Assumes nothing.
+-- Laws of sections: every section has five numbers, they are stored one after the other, and every quality of a
+-- Butterworth filter is taken. Assumes nothing.
 use Prim.Native.Nat.{ℕ, zero, suc, _+_, _*_, _/_, _%_, _<_, _≤_}
 use mathlib.Core.Path.{_≡_, refl, sym, ap, _∙_, subst}
 use mathlib.Core.Bool.{Bool, true, false, cond, _&&_}

@@ -53,7 +53,9 @@ fn put_section(sos: &mut [f64], at: usize, coefs: [f64; 5])
     }
 }
 
-// Whether a filter is taken, for a buffer of `len` elements. Refused, in this order: 7 a response that is neither low-pass nor high-pass; 6 an order that isn't even, from 2 to 8; 8 where the buffer hasn't 5 order/2 elements; 2 with 0, rate/2, cutoff as `biquad_coefs`. 5 can't come: every quality is finite and positive.
+// Whether a filter is taken, for a buffer of `len` elements. Refused, in this order: 7 a response that is neither
+// low-pass nor high-pass; 6 an order that isn't even, from 2 to 8; 8 where the buffer hasn't 5 order/2 elements; 2 with
+// 0, rate/2, cutoff as `biquad_coefs`. 5 can't come: every quality is finite and positive.
 pub fn judge(response: Response, order: u64, cutoff: f64, rate: f64, len: u64) -> Verdict
     ensures { λ r. ⌜ r ≡ answered (butterworthOf response order cutoff rate len) ⌝ }
 {
@@ -73,7 +75,8 @@ pub fn judge(response: Response, order: u64, cutoff: f64, rate: f64, len: u64) -
     Verdict::Done
 }
 
-// Fills the buffer with order/2 sections, five numbers each, the lowest quality first. Refused as `judge`, with the buffer as it came.
+// Fills the buffer with order/2 sections, five numbers each, the lowest quality first. Refused as `judge`, with the
+// buffer as it came.
 pub fn butterworth_sos(
     response: Response,
     order: u64,

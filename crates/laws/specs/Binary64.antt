@@ -1,4 +1,5 @@
--- Short names for what definitions say of an f64: its four operations, each rounded once, its bit patterns and its whole numbers. Definitions only.
+-- Short names for what definitions say of an f64: its four operations, each rounded once, its bit patterns and its
+-- whole numbers. Definitions only.
 use Prim.Native.Nat.{ℕ, zero, suc, _*_}
 use mathlib.Core.List.{List, [], _∷_}
 use mathlib.Core.Bool.{false}

@@ -1,4 +1,5 @@
--- A list that is filled from the front in chunks of w elements, one chunk a turn: after n turns it is `chunks n g ++ drop (w * n) d`.
+-- A list that is filled from the front in chunks of w elements, one chunk a turn: after n turns it is `chunks n g ++
+-- drop (w * n) d`.
 -- Over any element type and any width: f64, f32 and Q15 elements in a byte buffer are w = 8, 4 and 2.
 use mathlib.Core.Path.{_≡_, refl, sym, ap, _∙_}
 use mathlib.Core.List.{List, [], _++_, append-nil}

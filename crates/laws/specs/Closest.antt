@@ -1,4 +1,5 @@
--- The nearest whole number to a fraction, ties to even: by the remainder, by one division, and how a factor or a sum moves it. Assumes nothing.
+-- The nearest whole number to a fraction, ties to even: by the remainder, by one division, and how a factor or a sum
+-- moves it. Assumes nothing.
 use mathlib.Core.Path.{_≡_, refl, sym, ap, _∙_, subst}
 use mathlib.Core.Logic.{_⊎_, inl, inr}
 use mathlib.Core.Bool.{not}
@@ -40,7 +41,8 @@ one-order a b Ordering·gt Ordering·gt x y = refl
 pub closest-by : (n u : ℕ) (o : Ordering) → Ordered o (n % u * 2) u → closest n u ≡ nearest (n / u) o
 closest-by n u o h = ap (λ (p : Ordering). nearest (n / u) p) (one-order (n % u * 2) u (compare (n % u * 2) u) o (compare-says (n % u * 2) u) h)
 
--- the nearest whole number to n / 2 h as one division: h - 1 more carries above a half, and at a half the 1 of an odd quotient does
+-- the nearest whole number to n / 2 h as one division: h - 1 more carries above a half, and at a half the 1 of an odd
+-- quotient does
 pub closest-added : (n h : ℕ) → 0 < h → closest n (2 * h) ≡ (n + (h - 1) + n / (2 * h) % 2) / (2 * h)
 closest-added n h H = sym (go (n / (2 * h)) (n % (2 * h)) (compare (n % (2 * h) * 2) (2 * h)) (div-add-mod' n (2 * h)) (mod-lt n (mul-pos (zero-lt-suc 1) H)) (compare-says (n % (2 * h) * 2) (2 * h)))
   where

@@ -1,4 +1,6 @@
--- The codes of quotients by their sum add up to 32768, nearly: off by n · (1/2 + (1 + A) / 2^37) at most at an f64, A the sum of the quotients' sizes. It is no corollary of the quotients' own total, since 32768 t + 0.5 is itself rounded. Assumes nothing.
+-- The codes of quotients by their sum add up to 32768, nearly: off by n · (1/2 + (1 + A) / 2^37) at most at an f64, A
+-- the sum of the quotients' sizes. It is no corollary of the quotients' own total, since 32768 t + 0.5 is itself
+-- rounded. Assumes nothing.
 use mathlib.Core.Path.{_≡_, refl, sym, ap, subst}
 use mathlib.Core.List.{List, [], _∷_}
 use Prim.Native.Nat.{ℕ, suc, _+_, _-_, _*_, _^_, _≤_, _<_}
@@ -92,7 +94,8 @@ below : (f : Format) → prec f ≤ low f
 below binary32 = lit≤ tt
 below binary64 = lit≤ tt
 
--- |the sum of the codes, less 2 ^ 15| ≤ n * (1 / 2 + (1 + A) * 2 ^ 16 / 2 ^ prec), multiplied by 2 ^ (prec + 1) and by the units of 1
+-- |the sum of the codes, less 2 ^ 15| ≤ n * (1 / 2 + (1 + A) * 2 ^ 16 / 2 ^ prec), multiplied by 2 ^ (prec + 1) and by
+-- the units of 1
 pub codes-whole : (f : Format) (x : Float) (xs : List Float) → Each (fits f) (x ∷ xs) → T (finite (total f nought (x ∷ xs))) → Each finite (quotients f (x ∷ xs) (total f nought (x ∷ xs))) → 4 * length (x ∷ xs) ≤ 2 ^ (prec f - 1)
     → Each (coded f) (quotients f (x ∷ xs) (total f nought (x ∷ xs)))
     → 2 * (2 ^ (prec f - 1) * 2) * 2 ^ low f * natAbs (sumZ (code f) (quotients f (x ∷ xs) (total f nought (x ∷ xs))) -ℤ pos (2 ^ 15))
@@ -123,7 +126,8 @@ codes-whole f x xs a t u k v =
     eighth : (n h : ℕ) → 4 * n ≤ h → 8 * n ≤ h * 2
     eighth n h k = omega arith
 
--- at an f64, n being at most 2^24: |the sum of the codes, less 32768| ≤ n * (1 / 2 + (1 + A) / 2 ^ 37), multiplied by 2 ^ 37 and by the 2 ^ 1074 units of 1
+-- at an f64, n being at most 2^24: |the sum of the codes, less 32768| ≤ n * (1 / 2 + (1 + A) / 2 ^ 37), multiplied by 2
+-- ^ 37 and by the 2 ^ 1074 units of 1
 lessen : (L z n A : ℕ) → 2 * (2 ^ 52 * 2) * L * z ≤ n * (2 ^ 52 * 2 * L + 4 * 2 ^ 15 * (L + A)) → 2 ^ 37 * L * z ≤ n * (2 ^ 36 * L + L + A)
 lessen L z n A h = le-of-mul-le-mul-left {k = 131072} (omega arith) (lit≤ tt)
 

@@ -1,4 +1,5 @@
--- Values as codes of 16 bits: q is 32768 * t + 0.5, rounded and then cut down to a whole number. How far codes are from their values, one and all together, and how large a value with a code can be. Assumes nothing.
+-- Values as codes of 16 bits: q is 32768 * t + 0.5, rounded and then cut down to a whole number. How far codes are from
+-- their values, one and all together, and how large a value with a code can be. Assumes nothing.
 use mathlib.Core.Path.{_≡_, refl, sym, ap, _∙_, subst}
 use mathlib.Core.List.{List, [], _∷_}
 use Prim.Native.Nat.{ℕ, suc, _+_, _-_, _*_, _^_, _≤_, _<_, zero-le}
@@ -67,7 +68,8 @@ half-mag : (f : Format) → mag f half * 2 ≡ 1 * 1 * 2 ^ low f
 half-mag f = mag-cross f false 1 (negsuc 0) (half-fits f)
 
 -- ---- one code
--- P is 2 ^ prec, K is 2 ^ 15, L is 2 ^ low, h is half of L; w and z are the parts of the moved value, tp and tn of t, qp and qn of the code
+-- P is 2 ^ prec, K is 2 ^ 15, L is 2 ^ low, h is half of L; w and z are the parts of the moved value, tp and tn of t,
+-- qp and qn of the code
 tap : (P K L h tp tn wp wn qp qn D : ℕ) → h * 2 ≡ L
     → Within (P * (wp + (tn * K + 0))) (P * (wn + (tp * K + h))) D → D ≤ (tp * K + h) + (tn * K + 0)
     → qp * L + wn ≤ qn * L + wp → qn * L + wp < qp * L + wn + L

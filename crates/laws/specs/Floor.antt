@@ -1,4 +1,5 @@
--- The whole numbers next to a value: the greatest that is not above it, and the least that is not below it. Assumes nothing.
+-- The whole numbers next to a value: the greatest that is not above it, and the least that is not below it. Assumes
+-- nothing.
 use mathlib.Core.Path.{_≡_, refl, sym}
 use Prim.Native.Nat.{ℕ, zero, suc, _+_, _-_, _*_, _/_, _%_, _^_, _≤_, _<_}
 use native.Mathlib.Nat.{le-trans, le-of-eq, lt-of-mul-lt-mul-right, lt-of-le-of-lt, lt-of-lt-of-le, mul-lt-mul-of-pos-right, mul-le-mul-right, le-of-mul-le-mul-right, mul-right-comm, div-add-mod', mod-lt}
@@ -53,7 +54,8 @@ scaled a b d l x y D h p q = le-of-mul-le-mul-right (le-trans (le-of-eq p) (le-t
 scaled-lt : (a b d l x y : ℕ) → 0 < l → a < b → x * d ≡ a * l → y * d ≡ b * l → x < y
 scaled-lt a b d l x y L h p q = lt-of-mul-lt-mul-right d (lt-of-le-of-lt (le-of-eq p) (lt-of-lt-of-le (mul-lt-mul-of-pos-right h L) (le-of-eq (sym q))))
 
--- The four cases are two: a floor above zero and a ceiling below it cut the size, the other two raise it. The zeros are the parts that the sign leaves out.
+-- The four cases are two: a floor above zero and a ceiling below it cut the size, the other two raise it. The zeros are
+-- the parts that the sign leaves out.
 cut-is : (q r n d w l : ℕ) → q * d + r ≡ n → r < d → 0 < l → w * d ≡ n * l → (q * l + 0 ≤ 0 * l + w) × (0 * l + w < q * l + 0 + l)
 cut-is q r n d w l e h L g =
     let a : q * l ≤ w = scaled (q * d) n d l (q * l) w (omega arith) (omega arith) (mul-right-comm q l d) g in

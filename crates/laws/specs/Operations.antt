@@ -197,7 +197,8 @@ mul-finite f (fin s m e) (fin u n d) t = (tt, tt)
 lower : (P g l n h : ℕ) → 0 < l → Within (P * (g * (l * l))) (P * (n * l)) (n * l + h * (l * l)) → Within (P * (g * l)) (P * n) (n + h * l)
 lower P g l n h L w = cancel l (P * (g * l)) (P * n) (n + h * l) L (omega arith)
 
--- The product's magnitude: off by no more than 2 ^ -prec of the exact product, and half a unit. Its sign is that of the exact product. All of it is multiplied by 2 ^ low, the units in 1.
+-- The product's magnitude: off by no more than 2 ^ -prec of the exact product, and half a unit. Its sign is that of the
+-- exact product. All of it is multiplied by 2 ^ low, the units in 1.
 pub mul-error : (f : Format) (x y : Float) → T (fits f x) → T (fits f y) → T (finite (mul f x y))
     → (isNeg (mul f x y) ≡ unlike (isNeg x) (isNeg y))
     × Within (2 ^ prec f * (mag f (mul f x y) * 2 ^ low f)) (2 ^ prec f * (mag f x * mag f y)) (mag f x * mag f y + 2 ^ (prec f - 1) * 2 ^ low f)
@@ -253,7 +254,8 @@ div-is f (fin s m e) (fin s' n d) a b u t = go (eqb n 0) (eqb m 0) (λ (h : T (n
         let Y : 0 < y = first-pos y (down d) (subst (λ (z : ℕ). 0 < z) (sym q) (mul-pos (mul-pos N (up-pos d)) (pow-pos (low f)))) in
         (Y, round-same f (unlike s s') num den x y (mul-pos (mul-pos N (up-pos d)) (down-pos e)) Y (crossed (m * up e) (down d) (n * up d) (down e) x y l (pow-pos (low f)) p q))
 
--- The quotient's magnitude times the divisor's: off by no more than 2 ^ -prec of the dividend's, and half a unit times the divisor's. Its sign is that of the exact quotient.
+-- The quotient's magnitude times the divisor's: off by no more than 2 ^ -prec of the dividend's, and half a unit times
+-- the divisor's. Its sign is that of the exact quotient.
 pub div-error : (f : Format) (x y : Float) → T (fits f x) → T (fits f y) → T (finite y) → T (finite (div f x y))
     → (isNeg (div f x y) ≡ unlike (isNeg x) (isNeg y))
     × Within (2 ^ prec f * (mag f (div f x y) * mag f y)) (2 ^ prec f * (mag f x * 2 ^ low f)) (mag f x * 2 ^ low f + 2 ^ (prec f - 1) * mag f y)

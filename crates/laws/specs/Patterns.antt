@@ -1,4 +1,6 @@
--- The bit pattern of a value: without the bit of its sign it is the pattern of its size, each place that its digits are moved up counts in the exponent's field, and from 2 ^ (prec - 1) to 2 ^ prec, where the last digit is worth 1, it counts the whole numbers. Assumes nothing.
+-- The bit pattern of a value: without the bit of its sign it is the pattern of its size, each place that its digits are
+-- moved up counts in the exponent's field, and from 2 ^ (prec - 1) to 2 ^ prec, where the last digit is worth 1, it
+-- counts the whole numbers. Assumes nothing.
 use mathlib.Core.Path.{_≡_, ap, _∙_}
 use mathlib.Core.Bool.{Bool, true, false, cond}
 use Prim.Native.Nat.{ℕ, zero, suc, _+_, _-_, _*_, _/_, _%_, _^_, _≤_, _<_}

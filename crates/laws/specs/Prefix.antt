@@ -1,4 +1,5 @@
--- The index of the first element that fails a test, or the length where none does; and how a loop from the front finds it.
+-- The index of the first element that fails a test, or the length where none does; and how a loop from the front finds
+-- it.
 use mathlib.Core.Path.{_≡_, ap}
 use mathlib.Core.Bool.{Bool, true, false}
 use mathlib.Core.List.{List, [], _∷_}

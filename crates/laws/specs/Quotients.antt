@@ -152,7 +152,8 @@ key P H L X Y b n l k h = go (leb X Y) (leb→le X Y) (nleb→lt X Y)
         rest : (x y : ℕ) → y < x → x ≡ y + (x - y)
         rest x y h = omega arith
 
--- Pt and Nt are the sums of the quotients' parts, Fr and Br of the dividends', A and R of the magnitudes; b is the divisor's magnitude.
+-- Pt and Nt are the sums of the quotients' parts, Fr and Br of the dividends', A and R of the magnitudes; b is the
+-- divisor's magnitude.
 gather : (H L b n Pt Nt Fr Br R : ℕ)
     → Within (H * 2 * (Pt * b + Br * L)) (H * 2 * (Nt * b + Fr * L)) (R * L + suc n * (H * b))
     → Within (H * 2 * (b + Br)) (H * 2 * (0 + Fr)) (2 * n * R)
@@ -186,7 +187,8 @@ head-finite : (f : Format) (x : Float) (xs : List Float) (y : Float) → Each fi
 unfolding quotients
 head-finite f x xs y u = u .0
 
--- What is known of a list's sum and of the quotients by it, ts: their sum times the divisor's magnitude b, and the magnitudes against one another. R is the sum of the dividends' magnitudes.
+-- What is known of a list's sum and of the quotients by it, ts: their sum times the divisor's magnitude b, and the
+-- magnitudes against one another. R is the sum of the dividends' magnitudes.
 pub record Facts (f : Format) (x : Float) (xs ts : List Float) (b R : ℕ) : Type 0 where
   pub above : 0 < b
   pub near : Within (2 ^ (prec f - 1) * 2 * (sumOf (plus f) ts * b)) (2 ^ (prec f - 1) * 2 * ((sumOf (less f) ts + 2 ^ low f) * b)) ((2 * length xs + 1) * (R * 2 ^ low f) + suc (length xs) * (2 ^ (prec f - 1) * b))
@@ -214,8 +216,10 @@ facts f x xs a t u k =
       sizes = rw tw at (taps-size f rs S a F t u);
     }
 
--- The quotients of n values by their sum, which is worked out by rising index: their exact sum is off 1 by no more than n * (1 + A) / 2 ^ (prec - 1), A the sum of their magnitudes.
--- All is in units of the format's smallest value, and multiplied by 2 ^ (prec - 1). The sum is not 0, since a quotient by 0 is not finite.
+-- The quotients of n values by their sum, which is worked out by rising index: their exact sum is off 1 by no more than
+-- n * (1 + A) / 2 ^ (prec - 1), A the sum of their magnitudes.
+-- All is in units of the format's smallest value, and multiplied by 2 ^ (prec - 1). The sum is not 0, since a quotient
+-- by 0 is not finite.
 pub normalized : (f : Format) (x : Float) (xs : List Float) → Each (fits f) (x ∷ xs) → T (finite (total f nought (x ∷ xs))) → Each finite (quotients f (x ∷ xs) (total f nought (x ∷ xs))) → length (x ∷ xs) ≤ 2 ^ (prec f - 1)
     → Within (2 ^ (prec f - 1) * sumOf (plus f) (quotients f (x ∷ xs) (total f nought (x ∷ xs))))
     (2 ^ (prec f - 1) * (sumOf (less f) (quotients f (x ∷ xs) (total f nought (x ∷ xs))) + 2 ^ low f))

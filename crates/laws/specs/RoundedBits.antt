@@ -1,4 +1,5 @@
--- The bit pattern of a rounded fraction: the number that is kept, with how many digits were dropped in the exponent's field, and no more than an infinity's pattern. Over every format. Assumes nothing.
+-- The bit pattern of a rounded fraction: the number that is kept, with how many digits were dropped in the exponent's
+-- field, and no more than an infinity's pattern. Over every format. Assumes nothing.
 use mathlib.Core.Path.{_≡_, refl, sym, ap, _∙_, subst}
 use mathlib.Core.Bool.{Bool, not, cond}
 use Prim.Native.Nat.{ℕ, suc, _+_, _-_, _*_, _/_, _%_, _^_, _≤_, _<_, min, compare}

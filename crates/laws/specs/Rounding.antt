@@ -80,7 +80,8 @@ kept-error p n c P C =
     go : (h q t : ℕ) → Within (2 * (q * (c * t))) (2 * n) (c * t) → Within (h * 2 * (q * t * c)) (h * 2 * n) (h * (c * t))
     go h q t w = let x = times h (2 * (q * (c * t))) (2 * n) (c * t) w in omega arith
 
--- a / c rounded, in units: off by no more than 2 ^ -prec of itself and half a unit. All of it is multiplied by 2 ^ prec * c
+-- a / c rounded, in units: off by no more than 2 ^ -prec of itself and half a unit. All of it is multiplied by 2 ^ prec
+-- * c
 pub grid-error : (f : Format) (a c : ℕ) → 0 < c → Within (2 ^ prec f * (grid f a c * c)) (2 ^ prec f * (a * 2 ^ low f)) (a * 2 ^ low f + 2 ^ (prec f - 1) * c)
 grid-error f a c C =
     let p = prec f in

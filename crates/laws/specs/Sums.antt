@@ -1,4 +1,5 @@
--- The sum of g 0, g 1, .., g (n - 1) in that order, from +0, each addition rounded once; and that it is the sum of the list of them. Assumes nothing.
+-- The sum of g 0, g 1, .., g (n - 1) in that order, from +0, each addition rounded once; and that it is the sum of the
+-- list of them. Assumes nothing.
 use mathlib.Core.Path.{_≡_, refl, sym, ap, _∙_}
 use mathlib.Core.List.{List}
 use Prim.Native.Nat.{ℕ, zero, suc, _+_, _<_}

@@ -1,4 +1,5 @@
--- Sums of signed whole numbers, and the total of quotients by their sum over them: it is off 1 by n · (1 + A) / 2 ^ (prec - 1) at most, A the sum of the quotients' sizes. Assumes nothing.
+-- Sums of signed whole numbers, and the total of quotients by their sum over them: it is off 1 by n · (1 + A) / 2 ^
+-- (prec - 1) at most, A the sum of the quotients' sizes. Assumes nothing.
 use mathlib.Core.Path.{_≡_, refl, sym, ap, _∙_}
 use mathlib.Core.List.{List, [], _∷_}
 use Prim.Native.Nat.{ℕ, zero, suc, _+_, _-_, _*_, _^_, _≤_, _<_}

@@ -1,4 +1,5 @@
--- A finite value as a whole number of its format's smallest values, its units: `plus` of them less `less` of them, one of the two 0. Assumes nothing.
+-- A finite value as a whole number of its format's smallest values, its units: `plus` of them less `less` of them, one
+-- of the two 0. Assumes nothing.
 use mathlib.Core.Path.{_≡_, refl, sym, ap, _∙_, subst}
 use Prim.Native.Nat.{ℕ, zero, suc, _+_, _-_, _*_, _/_, _%_, _^_, _≤_, _<_}
 use native.Mathlib.Nat.{lt-of-not-le, not-le-of-lt, zero-mul, mul-one, mul-assoc, mul-div-cancel, zero-div, le-of-suc-le-suc}

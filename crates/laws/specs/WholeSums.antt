@@ -16,7 +16,8 @@ use Rattle.laws.specs.Operations.{dist}
 use Rattle.laws.specs.Units.{part, plus, less}
 use Rattle.laws.specs.WholeUnits.{parts-of-whole}
 
--- z is the sum of the whole numbers ±a and ±b: its sign and its size, and that a zero is -0 only where both are negative
+-- z is the sum of the whole numbers ±a and ±b: its sign and its size, and that a zero is -0 only where both are
+-- negative
 pub record IsSum (f : Format) (z : Float) (s : Bool) (a : ℕ) (t : Bool) (b : ℕ) : Type 0 where
   pub sign : Bool
   pub n : ℕ

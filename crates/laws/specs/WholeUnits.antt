@@ -1,4 +1,5 @@
--- A whole number in units of its format's smallest value, 2 ^ low to the 1, and from 2 ^ (prec - 1) on every value is one. Assumes nothing.
+-- A whole number in units of its format's smallest value, 2 ^ low to the 1, and from 2 ^ (prec - 1) on every value is
+-- one. Assumes nothing.
 use mathlib.Core.Path.{_≡_, refl, sym, ap, _∙_, subst}
 use mathlib.Core.Bool.{Bool, true, false, not}
 use Prim.Native.Nat.{ℕ, _+_, _-_, _*_, _/_, _^_, _≤_, _<_}

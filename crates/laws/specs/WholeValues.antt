@@ -1,4 +1,5 @@
--- Values that are whole numbers: `HasValue x s n 1` says that x is n, negative where s is true. What their floor, their negation and their integer are. Assumes nothing.
+-- Values that are whole numbers: `HasValue x s n 1` says that x is n, negative where s is true. What their floor, their
+-- negation and their integer are. Assumes nothing.
 use mathlib.Core.Path.{_≡_, refl, sym, ap, _∙_, subst}
 use Prim.Native.Nat.{ℕ, zero, suc, _+_, _-_, _*_, _/_, _^_, _≤_, _<_, min}
 use native.Mathlib.Nat.{zero-lt-suc, mul-one, mul-pos, mul-div-cancel, mul-lt-mul-of-pos-right}

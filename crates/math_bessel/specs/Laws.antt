@@ -1,4 +1,5 @@
--- How a loop finds where the series stops: at the last term allowed, at one that is small, or one term further. Assumes nothing.
+-- How a loop finds where the series stops: at the last term allowed, at one that is small, or one term further. Assumes
+-- nothing.
 use Prim.Native.Nat.{ℕ, zero, suc, _+_, _-_, _≤_, _<_}
 use mathlib.Core.Bool.{Bool, true, false}
 use mathlib.Core.Path.{_≡_, refl, ap, sym, _∙_}

@@ -15,7 +15,8 @@ pub struct Pair {
     pub second: f64,
 }
 
-// The series from where it has k terms after the leading 1, of which none but the last may end it. The next term's number is kept as a float, since adding 1 to it is quicker than turning a whole number into one.
+// The series from where it has k terms after the leading 1, of which none but the last may end it. The next term's
+// number is kept as a float, since adding 1 to it is quicker than turning a whole number into one.
 fn rest(half: f64, term: f64, sum: f64, k: u64) -> Series
     requires { ⌜ Going half term sum k ⌝ }
     ensures { λ r. ⌜ r .sum ≡ partial half (termsOf half) ⌝ ∗ ⌜ r .terms ≡ termsOf half ⌝ }
@@ -39,14 +40,16 @@ fn rest(half: f64, term: f64, sum: f64, k: u64) -> Series
     }
 }
 
-// I0(x) = 1 + Σ ((x/2)^k / k!)², each term from the one before. It stops after the first term below 1e-17 of the sum, or after 500, as it does for NaN and infinities. Example: I0(0) is 1, with one term.
+// I0(x) = 1 + Σ ((x/2)^k / k!)², each term from the one before. It stops after the first term below 1e-17 of the sum,
+// or after 500, as it does for NaN and infinities. Example: I0(0) is 1, with one term.
 pub fn bessel_i0(x: f64) -> Series
     ensures { λ r. ⌜ r ≡ seriesOf x ⌝ }
 {
     rest(x / 2.0, 1.0, 1.0, 0)
 }
 
-// The sums at x and at y, term by term together as long as both go on: a processor divides two numbers in the time of one, and neither sum waits for the other.
+// The sums at x and at y, term by term together as long as both go on: a processor divides two numbers in the time of
+// one, and neither sum waits for the other.
 pub fn bessel_i0_pair(x: f64, y: f64) -> Pair
     ensures { λ r. ⌜ r .first ≡ seriesOf x .sum ⌝ ∗ ⌜ r .second ≡ seriesOf y .sum ⌝ }
 {

@@ -1,4 +1,5 @@
--- What the exponential rests on: from −700 to 0 the number of doublings is a whole number from −1012 to 0, and a bit pattern is a power of two. Assumes nothing.
+-- What the exponential rests on: from −700 to 0 the number of doublings is a whole number from −1012 to 0, and a bit
+-- pattern is a power of two. Assumes nothing.
 use mathlib.Core.Path.{_≡_, refl, sym, ap, _∙_, subst}
 use mathlib.Core.Logic.{_⊎_, inl, inr}
 use Prim.Native.Nat.{ℕ, zero, suc, _+_, _-_, _*_, _/_, _%_, _^_, _≤_, _<_}

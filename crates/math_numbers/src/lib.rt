@@ -37,7 +37,8 @@ pub fn is_same(x: f64, y: f64) -> bool
     }
 }
 
-// x without its fraction as a count: 0 for NaN and what is below 0, the largest count for what is above it. Rust's `as u64`.
+// x without its fraction as a count: 0 for NaN and what is below 0, the largest count for what is above it. Rust's `as
+// u64`.
 pub fn to_count(x: f64) -> u64
     ensures { λ r. ⌜ r ≡ toUnsigned 64 x ⌝ }
 {

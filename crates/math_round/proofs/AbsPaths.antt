@@ -1,4 +1,5 @@
--- What each path of `fabs` rests on: the pattern of a value without the bit of its sign is the pattern of its size. Assumes nothing.
+-- What each path of `fabs` rests on: the pattern of a value without the bit of its sign is the pattern of its size.
+-- Assumes nothing.
 use mathlib.Core.Path.{_≡_, refl, sym, ap, _∙_, subst}
 use mathlib.Core.Bool.{Bool, true, false, not}
 use Prim.Native.Nat.{_%_, _^_}

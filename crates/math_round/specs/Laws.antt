@@ -1,4 +1,5 @@
--- What callers may know of floor, ceiling and absolute value without looking into them: they fit an f64, the floor's value, the ceiling as a floor, and that a whole number is its own floor. Assumes nothing.
+-- What callers may know of floor, ceiling and absolute value without looking into them: they fit an f64, the floor's
+-- value, the ceiling as a floor, and that a whole number is its own floor. Assumes nothing.
 use mathlib.Core.Path.{_≡_, refl, sym, ap, _∙_, subst}
 use Prim.Native.Nat.{ℕ, zero, suc, _+_, _-_, _*_, _/_, _%_, _^_, _≤_, _<_}
 use native.Mathlib.Nat.{le-of-eq, lt-irrefl, lt-of-le-of-lt, lt-of-mul-lt-mul-right, zero-lt-suc, mul-one, mul-comm, zero-mul, mul-right-comm, mul-lt-mul-of-pos-right, mul-pos, mul-div-cancel, eq-of-mul-eq-mul-right}

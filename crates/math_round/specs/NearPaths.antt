@@ -1,4 +1,5 @@
--- What each path of `floor` and `floor_small` rests on: the whole number near x, or the one under it, or x itself is the floor. Assumes nothing.
+-- What each path of `floor` and `floor_small` rests on: the whole number near x, or the one under it, or x itself is
+-- the floor. Assumes nothing.
 use mathlib.Core.Path.{_≡_, refl, sym, ap, _∙_}
 use mathlib.Core.Bool.{Bool, true, false, not, _&&_, cond, false≢true}
 use Prim.Native.Nat.{ℕ, _+_, _*_, _^_, _≤_, _<_}

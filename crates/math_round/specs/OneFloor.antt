@@ -1,4 +1,5 @@
--- What shows that a whole number is the floor of x: it is not above x, x is less than 1 above it, and as a zero it has the sign of x. Assumes nothing.
+-- What shows that a whole number is the floor of x: it is not above x, x is less than 1 above it, and as a zero it has
+-- the sign of x. Assumes nothing.
 use mathlib.Core.Path.{_≡_, refl, sym, subst}
 use mathlib.Core.Bool.{Bool, true, false, not}
 use Prim.Native.Nat.{ℕ, zero, suc, _+_, _*_, _^_, _≤_, _<_}

@@ -4,7 +4,8 @@ use lib.IntN.{ℤ, natAbs}
 use lib.Ieee.{Float, nan, inf, fin, binary64, round}
 use Rattle.laws.specs.Floor.{floorZ, ceilZ}
 
--- a whole number as an f64, with the sign s of the value that it came from, so that a zero has a sign too: z has that sign or is 0
+-- a whole number as an f64, with the sign s of the value that it came from, so that a zero has a sign too: z has that
+-- sign or is 0
 unfoldable pub asFloat : Bool → ℤ → Float
 asFloat s z = round binary64 s (natAbs z) 1
 

@@ -20,7 +20,8 @@ pub fn floor(x: f64) -> f64
     }
 }
 
-// The sum of a small x and 3 · 2^51 lies between 2^52 and 2^53, where an f64 has no fraction: it is a whole number, and less than 1 off. Taking 3 · 2^51 away again is exact, so `near` is a whole number less than 1 away from x.
+// The sum of a small x and 3 · 2^51 lies between 2^52 and 2^53, where an f64 has no fraction: it is a whole number, and
+// less than 1 off. Taking 3 · 2^51 away again is exact, so `near` is a whole number less than 1 away from x.
 // For a larger x nothing is promised of the answer: a caller that knows its x to be small spares the test.
 pub fn floor_small(x: f64) -> f64
     ensures { λ r. ⌜ (AtMost x (2 ^ 50) 1 → r ≡ floorOf x) ⌝ }
@@ -29,7 +30,9 @@ pub fn floor_small(x: f64) -> f64
     chosen(x, near, near - 1.0)
 }
 
-// `near` where it is below x, and the whole number under it where it is above. Where it is neither it equals x, and the answer is x, so that a zero keeps its sign. All three are there before the choice, so it needs no branch, which would be guessed wrong half of the time.
+// `near` where it is below x, and the whole number under it where it is above. Where it is neither it equals x, and the
+// answer is x, so that a zero keeps its sign. All three are there before the choice, so it needs no branch, which would
+// be guessed wrong half of the time.
 fn chosen(x: f64, near: f64, under: f64) -> f64
     ensures { λ r. ⌜ r ≡ cond (lt x near) under (cond (lt near x) near x) ⌝ }
 {
@@ -42,7 +45,9 @@ fn chosen(x: f64, near: f64, under: f64) -> f64
     }
 }
 
-// The floor of any x. From 2^52 on a size has no fraction, so x comes back as it is; so do zeros, infinities and NaN. Below 2^52 the size cut to a u64 loses nothing but its fraction. Below zero that cut goes up, so where it changed the size the answer is one further from zero.
+// The floor of any x. From 2^52 on a size has no fraction, so x comes back as it is; so do zeros, infinities and NaN.
+// Below 2^52 the size cut to a u64 loses nothing but its fraction. Below zero that cut goes up, so where it changed the
+// size the answer is one further from zero.
 fn floor_wide(x: f64) -> f64
     ensures { λ r. ⌜ r ≡ floorOf x ⌝ }
 {

@@ -7,7 +7,8 @@ use lib.Dec.{lit≤}
 use lib.Pow.{shl-exact}
 use Rattle.math_sqrt.specs.WholeRoot.{Root}
 
--- The digits of the root from the place p up are found: they are q. Twice what the square of q leaves over is rest, in units of p.
+-- The digits of the root from the place p up are found: they are q. Twice what the square of q leaves over is rest, in
+-- units of p.
 pub record Going (m p q rest : ℕ) : Type 0 where
   pub sum : 2 * (q * q) + rest * p ≡ 2 * (m * 2 ^ 54)
   pub near : rest < 4 * q + 2 * p

@@ -1,5 +1,7 @@
--- The middles between the rounded root and the other values: that the root lies on the near side of each, in whole numbers.
--- N is the number whose root is sought, q the whole part of that root, and a its half, rounded. The rounded root is a * c units, for a power of two c, and the exact one is that of N * (c * c), halved.
+-- The middles between the rounded root and the other values: that the root lies on the near side of each, in whole
+-- numbers.
+-- N is the number whose root is sought, q the whole part of that root, and a its half, rounded. The rounded root is a *
+-- c units, for a power of two c, and the exact one is that of N * (c * c), halved.
 use mathlib.Core.Path.{_≡_, sym, ap, _∙_, subst}
 use mathlib.Core.Logic.{inl, inr}
 use Prim.Native.Nat.{ℕ, suc, _+_, _-_, _*_, _^_, _≤_, _<_}

@@ -11,7 +11,8 @@ use Rattle.math_sqrt.specs.WholeRoot.{Root, root-digits}
 use Rattle.math_sqrt.specs.Middles.{Step, step, over-mid, under-mid, four-at, square-pow}
 use Rattle.math_sqrt.specs.Patterns.{Value, magOf, bits-value, made-mag}
 
--- r is the pattern of the root of the value of X units, as `rootPattern` makes it: m and h stand for that value, and q is the whole part of the root of m * 2 ^ 54
+-- r is the pattern of the root of the value of X units, as `rootPattern` makes it: m and h stand for that value, and q
+-- is the whole part of the root of m * 2 ^ 54
 pub record RootBits (X r : ℕ) : Type 0 where
   pub m : ℕ
   pub h : ℕ

@@ -16,7 +16,8 @@ pub record HalfRoot (m r : ℕ) : Type 0 where
 pub half-most : (m r : ℕ) → 2 ^ 52 ≤ m → m < 2 ^ 54 → HalfRoot m r → r ≤ 2 ^ 53
 half-most m r l h c = omega (arith, c .half, root-digits (c .q) m l h (c .root))
 
--- the test: m * 2 ^ 52 is above r * r - r, and not above r * r + r. So the root of m * 2 ^ 54, which is twice that of m * 2 ^ 52, is above 2 * r - 1 and below 2 * r + 1.
+-- the test: m * 2 ^ 52 is above r * r - r, and not above r * r + r. So the root of m * 2 ^ 54, which is twice that of m
+-- * 2 ^ 52, is above 2 * r - 1 and below 2 * r + 1.
 pub half-root : (m r : ℕ) → 0 < r → r * r < m * 2 ^ 52 + r → m * 2 ^ 52 ≤ r * r + r → HalfRoot m r
 half-root m zero h l u = absurd (lt-irrefl 0 h)
 half-root m (suc t) h l u = elim (lt-or-le (m * 2 ^ 52) (suc t * suc t)) [

@@ -1,4 +1,5 @@
--- What the functions on patterns say: a value with the leading digit of its significand brought into place, and the pattern of its root.
+-- What the functions on patterns say: a value with the leading digit of its significand brought into place, and the
+-- pattern of its root.
 use mathlib.Core.Path.{_≡_, refl, sym, ap, _∙_}
 use Prim.Native.Nat.{ℕ, zero, suc, _+_, _-_, _*_, _/_, _%_, _^_, _≤_, _<_}
 use native.Mathlib.Nat.{le-refl, lt-irrefl, add-comm, mul-assoc, mul-le-mul-right, pow-suc, pow-succ'}

@@ -1,4 +1,5 @@
--- How a guess r at the rounded root is settled in 64 bits: by two numbers x and y that differ as much as m * 2 ^ 52 and the square of r.
+-- How a guess r at the rounded root is settled in 64 bits: by two numbers x and y that differ as much as m * 2 ^ 52 and
+-- the square of r.
 use mathlib.Core.Path.{_≡_, ap}
 use Prim.Native.Nat.{ℕ, _+_, _-_, _*_, _/_, _%_, _^_, _≤_, _<_}
 use native.Mathlib.Nat.{lt-irrefl}

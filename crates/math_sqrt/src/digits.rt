@@ -29,7 +29,8 @@ fn digit(m: u64, q: u64, rest: u64, i: u64) -> Found
     }
 }
 
-// The greatest whole number whose square is not above m * 2 ^ 54. Neither the product nor the squares fit a u64; what a square leaves over does, counted in units of the place of its last digit.
+// The greatest whole number whose square is not above m * 2 ^ 54. Neither the product nor the squares fit a u64; what a
+// square leaves over does, counted in units of the place of its last digit.
 pub(crate) fn root(m: u64) -> u64
     requires { ⌜ m < 2 ^ 54 ⌝ }
     ensures { λ r. ⌜ Root r (m * 2 ^ 54) ⌝ }

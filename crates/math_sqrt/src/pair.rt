@@ -22,7 +22,8 @@ struct Patterns {
     second: u64,
 }
 
-// The patterns of the roots of two finite values that are not subnormal, by their patterns. Both guesses stand before either is settled, so that they become vector instructions.
+// The patterns of the roots of two finite values that are not subnormal, by their patterns. Both guesses stand before
+// either is settled, so that they become vector instructions.
 fn sqrt_bits_pair(a: u64, b: u64) -> Patterns
     requires { ⌜ 2 ^ 52 ≤ a ⌝ ∗ ⌜ a < 2047 * 2 ^ 52 ⌝ ∗ ⌜ 2 ^ 52 ≤ b ⌝ ∗ ⌜ b < 2047 * 2 ^ 52 ⌝ }
     ensures { λ r. ⌜ RootBits (magOf (a / 2 ^ 52) (a % 2 ^ 52)) (r .first) ⌝ ∗ ⌜ RootBits (magOf (b / 2 ^ 52) (b % 2 ^ 52)) (r .second) ⌝ }
@@ -37,7 +38,8 @@ fn sqrt_bits_pair(a: u64, b: u64) -> Patterns
     }
 }
 
-// The square roots of x and y, each as `sqrt` gives it. Where neither is zero, subnormal, negative or not finite, the guesses are worked out together, in less time than one after the other.
+// The square roots of x and y, each as `sqrt` gives it. Where neither is zero, subnormal, negative or not finite, the
+// guesses are worked out together, in less time than one after the other.
 pub fn sqrt_pair(x: f64, y: f64) -> Roots
     ensures { λ r. ⌜ r .first ≡ sqrtOf x ⌝ ∗ ⌜ r .second ≡ sqrtOf y ⌝ }
 {

@@ -8,7 +8,10 @@ ghost use Rattle.math_sqrt.specs.Settled.{Chosen};
 // 2 ^ 54: the weight of a square's upper part.
 const PART: u64 = 4 * LEAD;
 
-// The whole number nearest to the root of a number, where that is r, r + 1 or r - 1, and else 0. The number is above the square of r by x - y, or below it by y - x. The middle between r and r + 1 has a square above that of r by r + 1 / 4, so that the root is above the middle where the number is above the square of r by more than r. The other middles are tested likewise.
+// The whole number nearest to the root of a number, where that is r, r + 1 or r - 1, and else 0. The number is above
+// the square of r by x - y, or below it by y - x. The middle between r and r + 1 has a square above that of r by r + 1
+// / 4, so that the root is above the middle where the number is above the square of r by more than r. The other middles
+// are tested likewise.
 fn chosen(r: u64, x: u64, y: u64) -> u64
     requires { ⌜ 2 ^ 52 ≤ r ⌝ ∗ ⌜ r < 2 ^ 53 ⌝ ∗ ⌜ x < 2 ^ 60 ⌝ ∗ ⌜ y < 2 ^ 60 ⌝ }
     ensures { λ s. ⌜ Chosen r x y s ⌝ }
@@ -26,7 +29,9 @@ fn chosen(r: u64, x: u64, y: u64) -> u64
     }
 }
 
-// The root of m * 2 ^ 52, rounded, where that is r or next to it, and else 0. Neither m * 2 ^ 52 nor the square of r fits a u64. Where r is so close, their upper parts are at most 2 apart, and what is compared is without what these share.
+// The root of m * 2 ^ 52, rounded, where that is r or next to it, and else 0. Neither m * 2 ^ 52 nor the square of r
+// fits a u64. Where r is so close, their upper parts are at most 2 apart, and what is compared is without what these
+// share.
 pub(crate) fn settled(m: u64, r: u64) -> u64
     requires { ⌜ m < 2 ^ 54 ⌝ ∗ ⌜ 2 ^ 52 ≤ r ⌝ ∗ ⌜ r < 2 ^ 53 ⌝ }
     ensures { λ s. ⌜ (0 < s → HalfRoot m s) ⌝ }

@@ -29,7 +29,8 @@ fn normal(d: u64) -> Scaled
     Scaled { m: a, g: k }
 }
 
-// The same value with an even g, and one digit more in m where that was odd. Chosen without a branch, which a processor could not foretell.
+// The same value with an even g, and one digit more in m where that was odd. Chosen without a branch, which a processor
+// would mispredict.
 pub(crate) fn evened(m: u64, g: u64) -> Scaled
     requires { ⌜ 2 ^ 52 ≤ m ⌝ ∗ ⌜ m < 2 ^ 53 ⌝ ∗ ⌜ 972 ≤ g ⌝ ∗ ⌜ g ≤ 3069 ⌝ }
     ensures { λ r. ⌜ Evened m g (r .m) (r .g) ⌝ }
@@ -39,7 +40,8 @@ pub(crate) fn evened(m: u64, g: u64) -> Scaled
     Scaled { m: d, g: g - odd }
 }
 
-// The pattern of the root of the value that m and an even g stand for, from a guess at the root of m. The root has half the exponent.
+// The pattern of the root of the value that m and an even g stand for, from a guess at the root of m. The root has half
+// the exponent.
 pub(crate) fn pattern(m: u64, g: u64, guess: u64) -> u64
     requires { ⌜ Even m g ⌝ ∗ ⌜ 2 ^ 52 ≤ guess ⌝ ∗ ⌜ guess < 2 ^ 53 ⌝ }
     ensures { λ r. ⌜ Finished m g r ⌝ }
@@ -72,7 +74,8 @@ fn sqrt_bits(b: u64) -> u64
     }
 }
 
-// The square root of x, rounded once: the f64 nearest to it. That of a zero or of +infinity is itself, and that of anything else below 0, or of a NaN, is a NaN.
+// The square root of x, rounded once: the f64 nearest to it. That of a zero or of +infinity is itself, and that of
+// anything else below 0, or of a NaN, is a NaN.
 pub fn sqrt(x: f64) -> f64
     ensures { λ r. ⌜ r ≡ sqrtOf x ⌝ }
 {

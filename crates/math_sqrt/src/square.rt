@@ -8,7 +8,8 @@ pub(crate) struct Parts {
     pub low: u64,
 }
 
-// The square of r = a * 2 ^ 27 + b, which is a * a * 2 ^ 54 + a * b * 2 ^ 28 + b * b. The last 26 digits of a * b go into the lower part, and the others into the upper one.
+// The square of r = a * 2 ^ 27 + b, which is a * a * 2 ^ 54 + a * b * 2 ^ 28 + b * b. The last 26 digits of a * b go
+// into the lower part, and the others into the upper one.
 pub(crate) fn square(r: u64) -> Parts
     requires { ⌜ r < 2 ^ 53 ⌝ }
     ensures { λ s. ⌜ Squared r (s .high) (s .low) ⌝ }

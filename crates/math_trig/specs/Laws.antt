@@ -1,4 +1,5 @@
--- What the reduction of an argument rests on: the number of quarter turns is a whole number of a size far below 2 ^ 50. Assumes nothing.
+-- What the reduction of an argument rests on: the number of quarter turns is a whole number of a size far below 2 ^ 50.
+-- Assumes nothing.
 use mathlib.Core.Path.{_≡_, refl, sym, ap, _∙_}
 use Prim.Native.Nat.{ℕ, zero, suc, _*_, _^_, _≤_, _<_}
 use native.Mathlib.Nat.{le-trans}

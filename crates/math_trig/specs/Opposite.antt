@@ -1,4 +1,5 @@
--- The sines of two arguments that lie as many quarter turns to either side of 0 and leave the same, but for its sign: the test, and that their sines differ in their sign alone where it passes. Assumes nothing.
+-- The sines of two arguments that lie as many quarter turns to either side of 0 and leave the same, but for its sign:
+-- the test, and that their sines differ in their sign alone where it passes. Assumes nothing.
 use mathlib.Core.Path.{_≡_, sym, ap, _∙_, subst}
 use mathlib.Core.Bool.{Bool, true, _&&_}
 use Prim.Native.Nat.{ℕ, zero, suc, _+_, _-_, _%_, _≤_}
@@ -14,7 +15,8 @@ use Rattle.math_round.specs.Whole.{absOf}
 use Rattle.math_trig.specs.Trig.{quarters, modulo4, quadrant, rest, sineTerms, cosineTerms, sineSeries, cosineSeries, sineIn, limit, sinOf}
 use Rattle.math_trig.specs.Laws.{At, sin-at}
 
--- both within the limit, in quadrants that add up to whole turns, and what is left of y is what is left of x with the other sign
+-- both within the limit, in quadrants that add up to whole turns, and what is left of y is what is left of x with the
+-- other sign
 unfoldable pub oppositeOf : Float → Float → Bool
 oppositeOf x y = (le (absOf x) limit && le (absOf y) limit) && (eqb ((quadrant x + quadrant y) % 4) 0 && same (rest y) (neg (rest x)))
 

@@ -1,4 +1,5 @@
--- Sine and cosine: the argument is brought to within an eighth of a turn of 0, and a nested power series gives the rest. Definitions only.
+-- Sine and cosine: the argument is brought to within an eighth of a turn of 0, and a nested power series gives the
+-- rest. Definitions only.
 --   k = floor(x · (2/π) + 0.5)        r = x − k·P1 − k·P2 − k·P3 − k·P4        z = r · r
 --   S = r · (1 + z · (−1/3! + z · (1/5! − ..))), to 1/17!        C = 1 + z · (−1/2! + z · (1/4! − ..)), to 1/16!
 --   by k modulo 4:  sin x is S, C, −S, −C  and  cos x is C, −S, −C, S

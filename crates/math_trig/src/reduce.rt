@@ -25,7 +25,8 @@ pub(crate) struct Reduced {
 // 3 · 2^51, a multiple of 4 in the middle of the f64s whose last digit is worth 1.
 const MIDDLE: f64 = 6755399441055744.0;
 
-// k modulo 4, for a whole number k of a size up to 2^50. The sum is exact and lies between 2^52 and 2^53, so the last bit of its pattern is worth 1 and the last two are what it leaves when divided by 4, on either side of zero.
+// k modulo 4, for a whole number k of a size up to 2^50. The sum is exact and lies between 2^52 and 2^53, so the last
+// bit of its pattern is worth 1 and the last two are what it leaves when divided by 4, on either side of zero.
 fn modulo_4(k: f64) -> u64
     requires { ⌜ Small k ⌝ }
     ensures { λ r. ⌜ r ≡ modulo4 (floorZ k) ⌝ }

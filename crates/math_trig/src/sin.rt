@@ -28,7 +28,8 @@ pub fn sin(x: f64) -> f64
     }
 }
 
-// Whether the sine of y is seen to be that of x with the other sign: both leave the same of a quarter turn, but for its sign, and lie as many quarter turns to either side. It needs neither series, and where it says no, nothing is known.
+// Whether the sine of y is seen to be that of x with the other sign: both leave the same of a quarter turn, but for its
+// sign, and lie as many quarter turns to either side. It needs neither series, and where it says no, nothing is known.
 pub fn is_opposite(x: f64, y: f64) -> bool
     ensures { λ r. ⌜ r ≡ oppositeOf x y ⌝ ∗ ⌜ (r ≡ true → sinOf y ≡ neg (sinOf x)) ⌝ }
 {

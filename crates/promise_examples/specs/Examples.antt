@@ -57,14 +57,14 @@ unfoldable pub firstTap : ℕ → Designed → Bool
 firstTap n (Designed.Ready l) = is64 (tapOf l 0) n
 firstTap n (Designed.Refused why) = false
 
-unfoldable pub turnsDown : ℕ → Designed → Bool
-turnsDown k (Designed.Ready l) = false
-turnsDown k (Designed.Refused why) = isPlain k why
+unfoldable pub refusesLowpass : ℕ → Designed → Bool
+refusesLowpass k (Designed.Ready l) = false
+refusesLowpass k (Designed.Refused why) = isPlain k why
 
 -- a half-band that is refused with the number k alone
-unfoldable pub turnsHalfband : ℕ → HalfbandDesigned → Bool
-turnsHalfband k (HalfbandDesigned.Ready d) = false
-turnsHalfband k (HalfbandDesigned.Refused why) = isPlain k why
+unfoldable pub refusesHalfband : ℕ → HalfbandDesigned → Bool
+refusesHalfband k (HalfbandDesigned.Ready d) = false
+refusesHalfband k (HalfbandDesigned.Refused why) = isPlain k why
 
 -- −32768 is `negsuc 32767`
 unfoldable pub sameInt : ℤ → ℤ → Bool
@@ -111,9 +111,9 @@ isRange k least most offered (Why.Length expected given) = false
 isRange k least most offered (Why.Cap n cap) = false
 isRange k least most offered (Why.Element i lo hi got) = false
 
-unfoldable pub turnsLength : ℕ → ℕ → ℕ → ℕ → Length → Bool
-turnsLength k least most offered (Taps.Taps m) = false
-turnsLength k least most offered (Taps.Refused why) = isRange k least most offered why
+unfoldable pub refusesLength : ℕ → ℕ → ℕ → ℕ → Length → Bool
+refusesLength k least most offered (Taps.Taps m) = false
+refusesLength k least most offered (Taps.Refused why) = isRange k least most offered why
 
 -- ---- the list
 unfoldable pub examples : List Bool
@@ -127,9 +127,9 @@ examples =
     ∷ isOrder 3 0 (orderOf (whole 8) (whole 1) (whole 1))
     -- Hann, cutoff 0.25, rate 1: one tap is 1, two taps give 10
     ∷ firstTap 0x3FF0_0000_0000_0000 (lowpassOf (fraction 1 4) (whole 1) Hann 1)
-    ∷ turnsDown 10 (lowpassOf (fraction 1 4) (whole 1) Hann 2)
+    ∷ refusesLowpass 10 (lowpassOf (fraction 1 4) (whole 1) Hann 2)
     -- half-band of 5: 6
-    ∷ turnsHalfband 6 (halfbandOf (whole 0) 5)
+    ∷ refusesHalfband 6 (halfbandOf (whole 0) 5)
     -- Q15: 1 to 32767, −1 to −32768, 2^−16 to 1, −2^−16 to 0
     ∷ isCode (pos 32767) (q15TapOf 0 (whole 1))
     ∷ isCode (negsuc 32767) (q15TapOf 1 (neg (whole 1)))
@@ -143,7 +143,7 @@ examples =
     ∷ isOutside14 1 0x3FFF_FFE0_0000_0000 (Q14.q14TapOf 1 (fraction 65535 32768))
     -- rrc_len: (2, 4) = 9, (1, 4) gives 6 with 2, 1024, 1, and (1024, 32) = 32769
     ∷ hasTaps 9 (rrcLenOf 2 4)
-    ∷ turnsLength 6 0x4000_0000_0000_0000 0x4090_0000_0000_0000 0x3FF0_0000_0000_0000 (rrcLenOf 1 4)
+    ∷ refusesLength 6 0x4000_0000_0000_0000 0x4090_0000_0000_0000 0x3FF0_0000_0000_0000 (rrcLenOf 1 4)
     ∷ hasTaps 32769 (rrcLenOf 1024 32)
     ∷ []
 
@@ -152,5 +152,5 @@ all [] = true
 all (b ∷ bs) = b && all bs
 
 pub examples-hold : T (all examples)
-unfolding all examples is64 isPlain isOrder firstTap turnsDown turnsHalfband sameInt isCode isElement isBeyond isOutside isOutside14 hasTaps isRange turnsLength sqrtOf seriesOf orderOf lowpassOf tapOf halfbandOf lengthTaken moved takes q15Of q15TapOf Q14.moved Q14.takes Q14.q14Of Q14.q14TapOf sampled spanned rrcLenOf betaOf pow04Of ofBits toBits ofInt round add sub mul div neg lt le eq ne toUnsigned positive floorOf ceilOf absOf asFloat floorZ ceilZ sinOf cosOf windowAt normOf sumTo fact over nested
+unfolding all examples is64 isPlain isOrder firstTap refusesLowpass refusesHalfband sameInt isCode isElement isBeyond isOutside isOutside14 hasTaps isRange refusesLength sqrtOf seriesOf orderOf lowpassOf tapOf halfbandOf lengthTaken moved takes q15Of q15TapOf Q14.moved Q14.takes Q14.q14Of Q14.q14TapOf sampled spanned rrcLenOf betaOf pow04Of ofBits toBits ofInt round add sub mul div neg lt le eq ne toUnsigned positive floorOf ceilOf absOf asFloat floorZ ceilZ sinOf cosOf windowAt normOf sumTo fact over nested
 examples-hold = tt

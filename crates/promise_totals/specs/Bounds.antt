@@ -1,7 +1,11 @@
--- What demand 3 says of a list of taps, stated over whole multiples of 2^-1074 with all denominators multiplied out. Definitions only.
---   T is the whole number that a tap is of 2^-1074, so that 1 is 2^1074 of them; ΣT and Σ|T| are exact, n is how many taps
---   tap total:  2^52 · |ΣT − 2^1074| ≤ n · (2^1074 + Σ|T|)                          that is |Σt − 1| ≤ n (1 + A)/2^52, A = Σ|t|
---   Q15 total:  2^37 · 2^1074 · |Σq − 32768| ≤ n · (2^36 · 2^1074 + 2^1074 + Σ|T|)   that is |Σq − 32768| ≤ n (1/2 + (1 + A)/2^37)
+-- What demand 3 says of a list of taps, stated over whole multiples of 2^-1074 with all denominators multiplied out.
+-- Definitions only.
+--   T is the whole number that a tap is of 2^-1074, so that 1 is 2^1074 of them; ΣT and Σ|T| are exact, n is how many
+--   taps
+--   tap total:  2^52 · |ΣT − 2^1074| ≤ n · (2^1074 + Σ|T|)                          that is |Σt − 1| ≤ n (1 + A)/2^52,
+--   A = Σ|t|
+--   Q15 total:  2^37 · 2^1074 · |Σq − 32768| ≤ n · (2^36 · 2^1074 + 2^1074 + Σ|T|)   that is |Σq − 32768| ≤ n (1/2 + (1
+--   + A)/2^37)
 use Prim.Native.Nat.{ℕ, _+_, _*_, _^_, _≤_}
 use mathlib.Core.Bool.{Bool}
 use mathlib.Core.List.{List}

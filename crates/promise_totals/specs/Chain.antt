@@ -1,4 +1,6 @@
--- From taps to Q15 in bytes: what `pel_to_q15` writes when it accepts is, element by element, the number that `q15_tap` makes, so that the Q15 total is about the bytes that a reader's filter runs on. The same of the other formats on the way. Assumes nothing.
+-- From taps to Q15 in bytes: what `pel_to_q15` writes when it accepts is, element by element, the number that `q15_tap`
+-- makes, so that the Q15 total is about the bytes that a reader's filter runs on. The same of the other formats on the
+-- way. Assumes nothing.
 use mathlib.Core.Path.{_≡_, refl, ap, _∙_, subst}
 use mathlib.Core.Bool.{Bool, true, false, cond}
 use mathlib.Core.List.{List}

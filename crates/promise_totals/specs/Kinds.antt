@@ -1,4 +1,5 @@
--- Each kind of design has taps that are raw values divided by their sum, the last divisor, and every tap is an f64. Assumes nothing.
+-- Each kind of design has taps that are raw values divided by their sum, the last divisor, and every tap is an f64.
+-- Assumes nothing.
 -- The channelizer's prototype and the design of a specification are low-passes.
 use mathlib.Core.Path.{_≡_, refl, sym, subst}
 use Prim.Native.Nat.{ℕ, _+_, _*_, _≤_, _<_}

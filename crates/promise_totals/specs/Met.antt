@@ -1,4 +1,5 @@
--- A real ticket of each kind meets every premise of both totals: it is accepted, its last divisor and its taps are finite, Q15 takes each of them and none saturates. Assumes nothing.
+-- A real ticket of each kind meets every premise of both totals: it is accepted, its last divisor and its taps are
+-- finite, Q15 takes each of them and none saturates. Assumes nothing.
 use mathlib.Core.Path.{refl, sym, subst}
 use Prim.Native.Nat.{ℕ}
 use mathlib.Core.Bool.{Bool, true, false, _&&_}

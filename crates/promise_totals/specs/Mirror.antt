@@ -1,4 +1,5 @@
--- The bytes of an accepted half-band: tap i and its mirror image are the same eight bytes, and every tap at an even distance from the middle but 0 is zero, whether the taps are finite or not. Assumes nothing.
+-- The bytes of an accepted half-band: tap i and its mirror image are the same eight bytes, and every tap at an even
+-- distance from the middle but 0 is zero, whether the taps are finite or not. Assumes nothing.
 use mathlib.Core.Path.{_≡_, refl, sym, ap, _∙_, subst}
 use mathlib.Core.List.{List}
 use Prim.Native.Nat.{ℕ, _-_, _*_, _/_, _%_, _<_}
@@ -55,7 +56,8 @@ bytes-symmetric beta len = either-way WhereMade (eqb (len % 8) 0) (outcomeOf (ha
 abbrev pub Mirrored : Report → List ℕ → Type 0
 Mirrored r after = r .number ≡ 0 → (i : ℕ) → i < r .count → take 8 (drop (8 * i) after) ≡ take 8 (drop (8 * (r .count - 1 - i)) after)
 
--- zero, "of either sign", where its "distance" is even and not 0: the size of i − (n − 1)/2, index (n − 1)/2 being "the middle"
+-- zero, "of either sign", where its "distance" is even and not 0: the size of i − (n − 1)/2, index (n − 1)/2 being "the
+-- middle"
 abbrev pub Vanishes : Report → List ℕ → Type 0
 Vanishes r after = r .number ≡ 0 → (i : ℕ) → i < r .count → distance (r .count) i % 2 ≡ 0 → (distance (r .count) i ≡ 0 → ⊥) → IsZero (floatAt after (8 * i))
 

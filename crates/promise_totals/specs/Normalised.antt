@@ -1,4 +1,5 @@
--- Taps that are raw values divided by their sum have both totals: the one argument under demand 3, of whichever kind the design is. Assumes nothing.
+-- Taps that are raw values divided by their sum have both totals: the one argument under demand 3, of whichever kind
+-- the design is. Assumes nothing.
 use mathlib.Core.Path.{_≡_, refl, sym, ap, _∙_, subst}
 use mathlib.Core.Bool.{Bool, true, false, _&&_}
 use mathlib.Core.List.{List, [], _∷_}
@@ -54,7 +55,8 @@ each-tabulate b (suc n) g h = (h 0, each-tabulate b n (λ i. g (suc i)) (λ i. h
 abbrev CodeTotal : List Float → Type 0
 CodeTotal ts = 2 ^ 37 * 2 ^ 1074 * natAbs (sumZ (Codes.code binary64) ts -ℤ pos 32768) ≤ length ts * (2 ^ 36 * 2 ^ 1074 + 2 ^ 1074 + sizes ts)
 
--- a list of raw values divided by its sum, with both totals; the first value is apart because a sum of none has no quotients
+-- a list of raw values divided by its sum, with both totals; the first value is apart because a sum of none has no
+-- quotients
 abbrev divided : List Float → List Float
 divided rs = quotients binary64 rs (total binary64 nought rs)
 

@@ -1,4 +1,5 @@
--- What comes of an export's numbers, whatever they are: taps that are raw values divided by their sum, or a refusal whose number is not 0. Assumes nothing.
+-- What comes of an export's numbers, whatever they are: taps that are raw values divided by their sum, or a refusal
+-- whose number is not 0. Assumes nothing.
 use mathlib.Core.Path.{_≡_, refl}
 use Prim.Native.Nat.{ℕ, _-_, _*_, _/_, _%_, _<_}
 use native.Mathlib.Omega.{arith}

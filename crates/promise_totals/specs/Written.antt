@@ -1,4 +1,5 @@
--- Demand 3 of the taps that the exports write, read back from the bytes, for every ticket and every length of the buffer. Assumes nothing.
+-- Demand 3 of the taps that the exports write, read back from the bytes, for every ticket and every length of the
+-- buffer. Assumes nothing.
 use mathlib.Core.Path.{_≡_, sym, subst}
 use mathlib.Core.Bool.{Bool}
 use mathlib.Core.List.{List}
@@ -43,9 +44,11 @@ abbrev pub tapsIn : Report → List ℕ → List Float
 tapsIn r after = floatsIn (r .count) after
 
 pub record Totals (r : Report) (after : List ℕ) : Type 0 where
-  -- "the exact sum of the taps differs from 1 by at most n (1 + A)/2^52", where the ticket is accepted and the last divisor and all taps are finite
+  -- "the exact sum of the taps differs from 1 by at most n (1 + A)/2^52", where the ticket is accepted and the last
+  -- divisor and all taps are finite
   pub taps : Accepted r → T (finite (divisorIn r)) → Each finite (tapsIn r after) → TapTotal (tapsIn r after)
-  -- "the Q15 sum differs from 32768 by at most n (1/2 + (1 + A)/2^37)", where moreover "Q15 takes" every tap (the conversion doesn't answer 11) and no tap "saturates"
+  -- "the Q15 sum differs from 32768 by at most n (1/2 + (1 + A)/2^37)", where moreover "Q15 takes" every tap (the
+  -- conversion doesn't answer 11) and no tap "saturates"
   pub codes : Accepted r → T (finite (divisorIn r)) → Each finite (tapsIn r after) → Each takes (tapsIn r after) → Each unsaturated (tapsIn r after) → Q15Total (tapsIn r after)
 
 -- ---- of any outcome

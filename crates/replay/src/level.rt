@@ -1,4 +1,5 @@
-// Kind 48: the gain and the bandwidth of a window. A line has its length in bytes, the patterns of its whole samples, and the seven words of the answer in the order of its fields.
+// Kind 48: the gain and the bandwidth of a window. A line has its length in bytes, the patterns of its whole samples,
+// and the seven words of the answer in the order of its fields.
 ghost use Prim.Native.Nat.{_≤_};
 use c_gain::level::GainReport;
 use c_gain::level::pel_window_gain;

@@ -1,4 +1,5 @@
-// Replays the stored list of the Rust's answers: what the port answers to the same questions is compared with them by bits.
+// Replays the stored list of the Rust's answers: what the port answers to the same questions is compared with them by
+// bits.
 
 mod converted;
 mod designs;

@@ -1,4 +1,5 @@
-// Kinds 32, 33 and 38: a pulse's length and design, and one Q14 number. A line has the arguments of an export and its report.
+// Kinds 32, 33 and 38: a pulse's length and design, and one Q14 number. A line has the arguments of an export and its
+// report.
 use c_math::single::pel_q14_from_f64;
 use c_pulses::cosine::pel_rrc_len;
 use c_pulses::cosine::pel_rrc_new;

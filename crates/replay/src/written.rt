@@ -1,4 +1,5 @@
-// Kinds 17, 20, 22, 24, 28, 34 to 37 and 42 to 47: designs and windows that are written to a buffer, whose length in bytes is the last argument.
+// Kinds 17, 20, 22, 24, 28, 34 to 37 and 42 to 47: designs and windows that are written to a buffer, whose length in
+// bytes is the last argument.
 ghost use Prim.Native.Nat.{_≤_};
 use c_lowpass::lowpass::pel_lowpass;
 use c_lowpass::prototype::pel_channelizer_prototype;

@@ -1,4 +1,5 @@
-// A buffer of f64s that was converted. A line has the destination's and the source's length in bytes, the source's whole elements, the report, and the patterns that were written.
+// A buffer of f64s that was converted. A line has the destination's and the source's length in bytes, the source's
+// whole elements, the report, and the patterns that were written.
 use crate::lent;
 use crate::lent::ELEMENTS;
 use crate::lent::LENT;
@@ -24,7 +25,8 @@ const INDEX: usize = 7;
 // The number of the refusal that stops a conversion.
 const STOPPED: u64 = 11;
 
-// Can a line have so many numbers? An accepted conversion has one for each element, one that was stopped those before the index that it names, and another refusal none.
+// Can a line have so many numbers? An accepted conversion has one for each element, one that was stopped those before
+// the index that it names, and another refusal none.
 fn can_have(numbers: usize, elements: usize, number: u64, index: u64) -> bool {
     if number == 0 {
         return numbers == elements;
@@ -35,7 +37,8 @@ fn can_have(numbers: usize, elements: usize, number: u64, index: u64) -> bool {
     numbers == 0
 }
 
-// What a line comes to whose destination is out after the call, was answered with r, and has numbers of width bytes. What was not converted has to be as it came.
+// What a line comes to whose destination is out after the call, was answered with r, and has numbers of width bytes.
+// What was not converted has to be as it came.
 pub fn judge(
     r: Report,
     out: &[u8; ROOM],

@@ -23,7 +23,8 @@ pub fn marked() -> [u8; ROOM]
     [MARK; ROOM]
 }
 
-// How many bytes to lend where a line asks for so many: never more than LENT, and a line that asks for more is unreadable.
+// How many bytes to lend where a line asks for so many: never more than LENT, and a line that asks for more is
+// unreadable.
 pub fn bytes(asked: u64) -> usize
     ensures { λ r. ⌜ r ≤ 4096 ⌝ }
 {
@@ -62,7 +63,9 @@ fn is_marked(out: &[u8; ROOM], from: usize) -> bool {
     true
 }
 
-// Do the count elements of width bytes whose words stand from index at make the start of the buffer, and does nothing else stand in it? No line has such elements where there are more than ELEMENTS, where the last of so many would be beyond the words, or where one is wider than a word.
+// Do the count elements of width bytes whose words stand from index at make the start of the buffer, and does nothing
+// else stand in it? No line has such elements where there are more than ELEMENTS, where the last of so many would be
+// beyond the words, or where one is wider than a word.
 pub fn holds(
     out: &[u8; ROOM],
     words: &[u64; WORDS],

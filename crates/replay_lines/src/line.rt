@@ -7,7 +7,8 @@ ghost use Rattle.replay_lines.specs.Words.{wordAt};
 // The most words that a line has.
 pub const WORDS: usize = 96;
 
-// The room for a line: three digits of a kind and its words, and one byte more, so that a line that fills it is too long.
+// The room for a line: three digits of a kind and its words, and one byte more, so that a line that fills it is too
+// long.
 pub const TEXT: usize = 1636;
 
 // A space and 16 digits.
@@ -57,7 +58,8 @@ fn read_digit(b: u8) -> Digit
     }
 }
 
-// The kind that the first n bytes begin with, and where it ends. It has at most three digits and no zero in front: end is 0 where there is none.
+// The kind that the first n bytes begin with, and where it ends. It has at most three digits and no zero in front: end
+// is 0 where there is none.
 fn read_kind(text: &[u8; TEXT], n: usize) -> Kind
     requires { ⌜ n < 1636 ⌝ }
     ensures { λ r. ⌜ (r .value < 1000) × (r .end ≤ n) ⌝ }

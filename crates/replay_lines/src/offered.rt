@@ -1,4 +1,5 @@
-// The buffer that an export reads from. Its length in bytes stands among the words, and after that the patterns of its whole elements.
+// The buffer that an export reads from. Its length in bytes stands among the words, and after that the patterns of its
+// whole elements.
 ghost use mathlib.Core.Path.{_≡_};
 ghost use Prim.Native.Nat.{_≤_};
 ghost use lib.ListN.{length};
@@ -21,7 +22,8 @@ fn fill(words: &[u64; WORDS], first: usize, elements: usize, width: usize, out: 
     }
 }
 
-// The buffer whose length stands at index at, with elements of width bytes, and bytes that are marked after them. A line that asks for more elements than it can have, or for wider ones than a word, is unreadable and gets none.
+// The buffer whose length stands at index at, with elements of width bytes, and bytes that are marked after them. A
+// line that asks for more elements than it can have, or for wider ones than a word, is unreadable and gets none.
 pub fn buffer(words: &[u64; WORDS], at: usize, width: usize) -> [u8; ROOM]
     ensures { λ r. ⌜ 4104 ≡ length r ⌝ }
 {

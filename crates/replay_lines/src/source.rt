@@ -8,7 +8,8 @@ use crate::tally;
 // How many bytes are read at once, the length of io::buffer().
 pub const CHUNK: usize = 4096;
 
-// How far the input is read: the part of the chunk that is not taken yet, and whether the input is at its end. Then the line that was taken last: its bytes, whether its newline came, its kind and its words; done says that there was none.
+// How far the input is read: the part of the chunk that is not taken yet, and whether the input is at its end. Then the
+// line that was taken last: its bytes, whether its newline came, its kind and its words; done says that there was none.
 pub struct Source {
     pub from: usize,
     pub until: usize,
@@ -61,7 +62,8 @@ fn read_some(s: Source, chunk: &mut [u8; CHUNK]) -> Source
     t
 }
 
-// One byte more of the line. A byte for which text has no room is dropped: the line is too long by then, and is refused at its end.
+// One byte more of the line. A byte for which text has no room is dropped: the line is too long by then, and is refused
+// at its end.
 fn put(s: Source, byte: u8, text: &mut [u8; TEXT]) -> Source
     requires { ⌜ s .until ≤ 4096 ⌝ }
     ensures { λ r. ⌜ r .until ≤ 4096 ⌝ }
@@ -91,7 +93,8 @@ fn step(s: Source, chunk: &mut [u8; CHUNK], text: &mut [u8; TEXT]) -> Source
     put(t, chunk[from], text)
 }
 
-// The bytes up to the next newline, or to the end of the input. A proved loop has to end, and nothing says that the input does. So the loop counts its turns down, from a number that no run uses up.
+// The bytes up to the next newline, or to the end of the input. A proved loop has to end, and nothing says that the
+// input does. So the loop counts its turns down, from a number that no run uses up.
 fn next_bytes(s: Source, chunk: &mut [u8; CHUNK], text: &mut [u8; TEXT]) -> Source
     requires { ⌜ s .until ≤ 4096 ⌝ }
     ensures { λ r. ⌜ r .until ≤ 4096 ⌝ }
@@ -113,7 +116,9 @@ fn next_bytes(s: Source, chunk: &mut [u8; CHUNK], text: &mut [u8; TEXT]) -> Sour
     t
 }
 
-// The next line, with its words at the start of words; what stands after them is left from earlier lines. What stands at the end of the input with no newline is no whole line and cannot be read: it has the kind 0. A source that says that more is read than a chunk has room for has no next line.
+// The next line, with its words at the start of words; what stands after them is left from earlier lines. What stands
+// at the end of the input with no newline is no whole line and cannot be read: it has the kind 0. A source that says
+// that more is read than a chunk has room for has no next line.
 pub fn next_line(
     s: Source,
     chunk: &mut [u8; CHUNK],

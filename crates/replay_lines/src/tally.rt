@@ -86,7 +86,8 @@ fn unreadable(t: Tally) -> Tally {
     q
 }
 
-// One line more, and this is what it came to. A line whose kind has more than three digits is unreadable, whatever the verdict.
+// One line more, and this is what it came to. A line whose kind has more than three digits is unreadable, whatever the
+// verdict.
 pub fn note(t: Tally, kind: usize, verdict: Verdict, counts: &mut [u64; COUNTS]) -> Tally {
     let mut q = t;
     q.lines = wrapping_add_u64(t.lines, 1);

@@ -1,4 +1,5 @@
-// What was written to a buffer. A line's last argument is the buffer's length in bytes, and where the answer is no refusal the patterns of the buffer's elements follow the report.
+// What was written to a buffer. A line's last argument is the buffer's length in bytes, and where the answer is no
+// refusal the patterns of the buffer's elements follow the report.
 use crate::lent;
 use crate::lent::ELEMENTS;
 use crate::lent::LENT;
@@ -27,7 +28,8 @@ fn can_have(elements: usize, width: usize, number: u64, bytes: u64) -> bool {
     elements as u64 == bytes / width as u64
 }
 
-// What a line comes to whose buffer has its length at index last, is out after the call, and was answered with r; its elements have width bytes. A refusal has no elements, so that the whole buffer has to be as it came.
+// What a line comes to whose buffer has its length at index last, is out after the call, and was answered with r; its
+// elements have width bytes. A refusal has no elements, so that the whole buffer has to be as it came.
 pub fn judge_elements(
     r: Report,
     out: &[u8; ROOM],

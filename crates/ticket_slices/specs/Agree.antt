@@ -1,4 +1,5 @@
--- The two ways to a half-band agree on every bit and every refusal: a tap at a time, and a buffer at once. Assumes nothing.
+-- The two ways to a half-band agree on every bit and every refusal: a tap at a time, and a buffer at once. Assumes
+-- nothing.
 use mathlib.Core.Path.{_≡_, refl, sym, ap, _∙_, subst}
 use mathlib.Core.Bool.{Bool, true, false, cond}
 use mathlib.Core.List.{List}

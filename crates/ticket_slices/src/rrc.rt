@@ -6,7 +6,8 @@ ghost use lib.ListN.{length};
 ghost use Rattle.verdict.specs.Outcome.{Fills};
 ghost use Rattle.fir_rrc.specs.Rrc.{rrcOf, fittedOf, outcomeOf};
 
-// Fills the buffer, which must have span sps + 1 elements, with a pulse of unit energy; refused as `fitted`, with the buffer as it came. Example: roll-off 0.5, 8 samples and a span of 8 make 65 taps.
+// Fills the buffer, which must have span sps + 1 elements, with a pulse of unit energy; refused as `fitted`, with the
+// buffer as it came. Example: roll-off 0.5, 8 samples and a span of 8 make 65 taps.
 pub fn rrc(rolloff: f64, sps: u64, span: u64, taps: &mut [f64]) -> Verdict
     ensures { λ r. ⌜ Fills (outcomeOf (fittedOf (rrcOf rolloff sps span) (length (now (taps .entry))))) (now (taps .entry)) r (now (taps .exit)) ⌝ }
 {

@@ -1,4 +1,5 @@
--- A design of any kind with the series at its beta, where it has one: its taps, and the raw taps that were kept of it. Definitions only.
+-- A design of any kind with the series at its beta, where it has one: its taps, and the raw taps that were kept of it.
+-- Definitions only.
 use Prim.Native.Nat.{ℕ}
 use mathlib.Core.List.{List}
 use lib.Ieee.{Float}

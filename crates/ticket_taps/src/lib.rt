@@ -1,4 +1,5 @@
-// A design of any kind: its taps one by one, and as the bytes of a buffer. One loop serves every kind, and a quicker one the raw taps of a low-pass that were kept.
+// A design of any kind: its taps one by one, and as the bytes of a buffer. One loop serves every kind, and a quicker
+// one the raw taps of a low-pass that were kept.
 use fir_gaussian::gaussian_design::Gaussian;
 use fir_halfband::HalfbandDesign;
 use fir_lowpass::lowpass::Lowpass;
@@ -40,7 +41,8 @@ fn smaller(a: usize, b: usize) -> usize
     if a < b { a } else { b }
 }
 
-// Puts the first taps of a low-pass in their places, as many as raw taps are kept, and tells how many. A loop of its own, since a division is all that each needs.
+// Puts the first taps of a low-pass in their places, as many as raw taps are kept, and tells how many. A loop of its
+// own, since a division is all that each needs.
 fn put_cached(lp: Lowpass, i0: f64, raws: &[f64], out: &mut [u8]) -> usize
     ensures { λ r. ⌜ 8 * r ≤ length (now (out .entry)) ⌝ ∗ ⌜ (Caches lp i0 (now (raws .entry)) → now (out .exit) ≡ chunked 8 r (λ k. floatBytes (tapWith lp i0 k)) (now (out .entry))) ⌝ }
 {
@@ -64,7 +66,8 @@ fn put_first(source: Source, raws: &[f64], out: &mut [u8]) -> usize
     }
 }
 
-// Fills the buffer: the eight bytes of tap i at 8 i, as far as they fit wholly. There is no heap, so each tap goes straight to its place.
+// Fills the buffer: the eight bytes of tap i at 8 i, as far as they fit wholly. There is no heap, so each tap goes
+// straight to its place.
 pub fn put_taps(source: Source, raws: &[f64], out: &mut [u8])
     ensures { λ _. ⌜ (CachedFor source (now (raws .entry)) → now (out .exit) ≡ chunked 8 (length (now (out .entry)) / 8) (λ i. floatBytes (tapAt source i)) (now (out .entry))) ⌝ }
 {

@@ -1,4 +1,5 @@
--- What a designer gives, of whichever kind: so many taps and the sum that they were divided by last, or a refusal; and the buffer that it fills. Definitions only.
+-- What a designer gives, of whichever kind: so many taps and the sum that they were divided by last, or a refusal; and
+-- the buffer that it fills. Definitions only.
 use Prim.Native.Nat.{ℕ}
 use mathlib.Core.Path.{_≡_}
 use mathlib.Core.List.{List}

@@ -25,7 +25,8 @@ pub fn gain_of(n: u64, sum: f64, squares: f64) -> Gain
     }
 }
 
-// Of a window of f32 samples, summed in f64 by rising index. An empty one gives (0, 0); samples that sum to 0 give an infinite bandwidth or NaN. Example: 0, 0.5, 1, 0.5 give 0.5 and 1.5.
+// Of a window of f32 samples, summed in f64 by rising index. An empty one gives (0, 0); samples that sum to 0 give an
+// infinite bandwidth or NaN. Example: 0, 0.5, 1, 0.5 give 0.5 and 1.5.
 pub fn window_gain(w: &[f32]) -> Gain
     ensures { λ r. ⌜ r ≡ gainOf (now (w .entry)) ⌝ }
 {

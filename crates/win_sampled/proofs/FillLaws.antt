@@ -1,4 +1,6 @@
--- A buffer that is filled with the samples of a window, one a turn, over any type of element and the `code` that makes one of a sample: what the loop keeps, its first and its next turn, and the answer at its end and at a refusal. Assumes nothing.
+-- A buffer that is filled with the samples of a window, one a turn, over any type of element and the `code` that makes
+-- one of a sample: what the loop keeps, its first and its next turn, and the answer at its end and at a refusal.
+-- Assumes nothing.
 use mathlib.Core.Path.{_≡_, sym, ap, _∙_}
 use mathlib.Core.List.{List}
 use mathlib.Core.Bool.{Bool, true, false, not}

@@ -1,5 +1,6 @@
 -- Windows of n samples, symmetric or periodic, and the buffer that holds one. Definitions only.
---   the formulas of `win_shapes/Windows` with p = i and d = n, or n − 1 where the window is symmetric; 1 where that is 0
+--   the formulas of `win_shapes/Windows` with p = i and d = n, or n − 1 where the window is symmetric; 1 where that is
+--   0
 use Prim.Native.Nat.{ℕ, _-_}
 use mathlib.Core.Path.{_≡_}
 use mathlib.Core.List.{List}

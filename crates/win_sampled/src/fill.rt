@@ -12,7 +12,8 @@ ghost use Rattle.fmt_q15.specs.Q15.{q15Of};
 ghost use Rattle.fmt_f32.specs.Single.{singleOf};
 ghost use Rattle.win_sampled.specs.Shapes.{FillsWindow};
 
-// Fills the buffer with the window, each sample the nearest f32. Refused: 4 a beta that isn't finite and not negative, also for an empty buffer, which stays as it came. Example: four periodic Hann samples are 0, 0.5, 1, 0.5.
+// Fills the buffer with the window, each sample the nearest f32. Refused: 4 a beta that isn't finite and not negative,
+// also for an empty buffer, which stays as it came. Example: four periodic Hann samples are 0, 0.5, 1, 0.5.
 pub fn fill_f32(shape: Shape, symmetry: Symmetry, out: &mut [f32]) -> Verdict
     ensures { λ r. ⌜ FillsWindow singleOf shape symmetry (now (out .entry)) r (now (out .exit)) ⌝ }
 {

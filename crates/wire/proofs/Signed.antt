@@ -1,4 +1,5 @@
--- A number of 16 bits, widened to 64 and moved up by 32768 so that it isn't negative: what the machine holds of it. Assumes nothing.
+-- A number of 16 bits, widened to 64 and moved up by 32768 so that it isn't negative: what the machine holds of it.
+-- Assumes nothing.
 use mathlib.Core.Path.{_≡_, refl, sym, ap, _∙_, subst}
 use mathlib.Core.Bool.{Bool, cond}
 use Prim.Native.Nat.{ℕ, suc, _+_, _-_, _%_, _^_, _<_}

@@ -1,4 +1,5 @@
--- How many bytes there are, whether a buffer has them, and a buffer that is filled with the bytes of numbers, one number a turn. Assumes nothing.
+-- How many bytes there are, whether a buffer has them, and a buffer that is filled with the bytes of numbers, one
+-- number a turn. Assumes nothing.
 use mathlib.Core.Path.{_≡_, refl, ap, _∙_}
 use mathlib.Core.List.{List}
 use mathlib.Core.Bool.{cond}

@@ -1,4 +1,5 @@
--- Reading gives back what was written: a number, and a buffer's f64s; the bytes of a number one by one, and which patterns are a NaN's. Assumes nothing.
+-- Reading gives back what was written: a number, and a buffer's f64s; the bytes of a number one by one, and which
+-- patterns are a NaN's. Assumes nothing.
 use mathlib.Core.Path.{_≡_, refl, sym, ap, _∙_}
 use mathlib.Core.List.{List, [], _∷_, _++_}
 use mathlib.Core.Bool.{not}

@@ -1,4 +1,5 @@
--- What an export tells and leaves: the elements of a design as the bytes of a buffer, or the buffer as it came. Definitions only.
+-- What an export tells and leaves: the elements of a design as the bytes of a buffer, or the buffer as it came.
+-- Definitions only.
 use Prim.Native.Nat.{ℕ, _-_, _*_, _%_}
 use mathlib.Core.Path.{_≡_}
 use mathlib.Core.List.{List}

@@ -50,7 +50,8 @@ pub fn put(out: &mut [u8], at: usize, width: usize, n: u64)
     put_bytes(&mut *out, at, width, n);
 }
 
-// Stores the eight bytes of x at `at`; where they don't fit wholly, the buffer stays as it is. Example: 1.0 at 0 is 0, 0, 0, 0, 0, 0, 240, 63.
+// Stores the eight bytes of x at `at`; where they don't fit wholly, the buffer stays as it is. Example: 1.0 at 0 is 0,
+// 0, 0, 0, 0, 0, 240, 63.
 pub fn put_f64(out: &mut [u8], at: usize, x: f64)
     ensures { λ _. ⌜ now (out .exit) ≡ putOf 8 (now (out .entry)) at (toBits binary64 x) ⌝ }
 {
@@ -66,7 +67,8 @@ pub fn bits_of(q: i16) -> u64
     (up + 32768) % 65536
 }
 
-// Stores the two bytes of q at `at`; where they don't fit wholly, the buffer stays as it is. Example: −2 at 0 is 254, 255.
+// Stores the two bytes of q at `at`; where they don't fit wholly, the buffer stays as it is. Example: −2 at 0 is 254,
+// 255.
 pub fn put_i16(out: &mut [u8], at: usize, q: i16)
     ensures { λ _. ⌜ now (out .exit) ≡ putOf 2 (now (out .entry)) at (twosOf q) ⌝ }
 {
@@ -92,7 +94,8 @@ pub fn float_of(n: u64) -> f64
     }
 }
 
-// Eight bytes as a number, the lowest first. They are parameters, so that each is known to be below 256; a caller reads them at proved places, without a test.
+// Eight bytes as a number, the lowest first. They are parameters, so that each is known to be below 256; a caller reads
+// them at proved places, without a test.
 pub fn join(a: u8, b: u8, c: u8, d: u8, e: u8, f: u8, g: u8, h: u8) -> u64
     ensures { λ r. ⌜ r ≡ joined a b c d e f g h ⌝ }
 {

@@ -10,7 +10,7 @@ use crate::{Design, Error};
 /// # Errors
 ///
 /// Refused, in this order, with `out` as it came:
-/// - 6 the taps aren't 3 over a multiple of 4, or are more than 2^24
+/// - 6 the taps aren't 3 mod 4, or are more than 2^24
 /// - 4 a beta that isn't finite and not negative
 /// - 10 a divisor that is 0 or not finite
 ///
@@ -43,7 +43,7 @@ pub fn halfband_new(beta: f64, taps: u64) -> Result<Design, Error> {
 }
 
 /// The taps that a half-band filter needs: those of [`kaiserord`](crate::kaiserord), and 2 more where that
-/// leaves 1 over a multiple of 4. Mind the order of the arguments.
+/// leaves 1 mod 4. Mind the order of the arguments.
 ///
 /// # Errors
 ///

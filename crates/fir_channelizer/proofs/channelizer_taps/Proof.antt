@@ -1,4 +1,5 @@
--- `fir_channelizer::channelizer_taps` meets its contract: what the tests say, and then an answer at a time. Assumes nothing.
+-- `fir_channelizer::channelizer_taps` meets its contract: what the tests say, and then an answer at a time. Assumes
+-- nothing.
 use mathlib.Core.Path.{_≡_, sym, ap, _∙_}
 use mathlib.Core.Bool.{true, false}
 use borrow.Author.Needs.{needs}

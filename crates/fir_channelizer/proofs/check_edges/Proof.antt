@@ -1,4 +1,5 @@
--- `fir_channelizer::check_edges` meets its contract: what each test says, and then an answer at a time. Assumes nothing.
+-- `fir_channelizer::check_edges` meets its contract: what each test says, and then an answer at a time. Assumes
+-- nothing.
 use mathlib.Core.Path.{_≡_, sym, _∙_}
 use mathlib.Core.Bool.{true}
 use borrow.Author.Needs.{needs}

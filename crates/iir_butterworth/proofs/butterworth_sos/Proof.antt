@@ -1,4 +1,5 @@
--- `iir_butterworth::butterworth_sos` meets its contract: what `judge` answers, and then the loop. Its invariant: the sections so far stand at the front. Assumes nothing.
+-- `iir_butterworth::butterworth_sos` meets its contract: what `judge` answers, and then the loop. Its invariant: the
+-- sections so far stand at the front. Assumes nothing.
 use mathlib.Core.Path.{_≡_, sym, ap, _∙_}
 use mathlib.Core.List.{List}
 use Prim.Native.Nat.{ℕ, _*_, _≤_, _-_}

@@ -1,4 +1,5 @@
--- `iir_butterworth::put_section` meets its contract. The loop's invariant: the first numbers are stored. Assumes nothing.
+-- `iir_butterworth::put_section` meets its contract. The loop's invariant: the first numbers are stored. Assumes
+-- nothing.
 use mathlib.Core.Path.{_≡_, refl, ap, _∙_}
 use mathlib.Core.List.{List}
 use Prim.Native.Nat.{ℕ, suc, _+_, _≤_, _-_}

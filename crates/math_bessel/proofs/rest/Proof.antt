@@ -1,4 +1,5 @@
--- `math_bessel::rest` meets its contract. The loop's invariant: the terms so far, none before the last small. Assumes nothing.
+-- `math_bessel::rest` meets its contract. The loop's invariant: the terms so far, none before the last small. Assumes
+-- nothing.
 use mathlib.Core.Path.{_≡_, refl}
 use Prim.Native.Nat.{_+_, _-_, _^_}
 use native.Mathlib.Omega.{arith}

@@ -1,4 +1,5 @@
--- `math_numbers::is_same` meets its contract: what equals something is no NaN, and any other number is known by its pattern. Assumes nothing.
+-- `math_numbers::is_same` meets its contract: what equals something is no NaN, and any other number is known by its
+-- pattern. Assumes nothing.
 use mathlib.Core.Path.{_≡_, refl, sym, ap, _∙_, subst}
 use mathlib.Core.Bool.{true, false, not, true≢false}
 use Prim.Native.Nat.{ℕ}

@@ -1,4 +1,5 @@
--- `ticket_taps::put_cached` meets its contract. The loop's invariant: the first i taps stand in the buffer, and the rest is as it came. Assumes nothing.
+-- `ticket_taps::put_cached` meets its contract. The loop's invariant: the first i taps stand in the buffer, and the
+-- rest is as it came. Assumes nothing.
 use mathlib.Core.Path.{_≡_, ap}
 use Prim.Native.Nat.{ℕ, _*_, _-_, _≤_}
 use native.Mathlib.Omega.{arith}

@@ -1,4 +1,5 @@
--- `ticket_taps::put_taps` meets its contract. The loop's invariant: where the first taps stood in a buffer that came, as many as the loop began with, the first i stand in it now. Assumes nothing.
+-- `ticket_taps::put_taps` meets its contract. The loop's invariant: where the first taps stood in a buffer that came,
+-- as many as the loop began with, the first i stand in it now. Assumes nothing.
 use mathlib.Core.Path.{_≡_, refl, ap, _∙_}
 use mathlib.Core.List.{List}
 use Prim.Native.Nat.{ℕ, _*_, _-_, _/_, _≤_}

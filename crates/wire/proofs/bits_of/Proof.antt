@@ -1,4 +1,5 @@
--- `wire::bits_of` meets its contract: moved up by 32768 the number isn't negative, and 32768 more bring its 16 bits. Assumes nothing.
+-- `wire::bits_of` meets its contract: moved up by 32768 the number isn't negative, and 32768 more bring its 16 bits.
+-- Assumes nothing.
 use Prim.Native.Nat.{ℕ, _+_, _^_, _<_}
 use native.Mathlib.Nat.{lt-of-lt-of-le}
 use lib.Dec.{lit≤}

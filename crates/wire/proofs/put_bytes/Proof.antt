@@ -1,4 +1,5 @@
--- `wire::put_bytes` meets its contract. The loop's invariant: storing what is left gives what storing everything would have given at first. Assumes nothing.
+-- `wire::put_bytes` meets its contract. The loop's invariant: storing what is left gives what storing everything would
+-- have given at first. Assumes nothing.
 use mathlib.Core.Path.{_≡_, refl, _∙_}
 use Prim.Native.Nat.{_+_, _-_, _≤_}
 use native.Mathlib.Omega.{arith}

@@ -1,4 +1,5 @@
--- `c_lowpass::lowpass::pel_lowpass` meets its contract: the code, the length, and then what `prepare` answers. Assumes nothing.
+-- `c_lowpass::lowpass::pel_lowpass` meets its contract: the code, the length, and then what `prepare` answers. Assumes
+-- nothing.
 use mathlib.Core.Path.{sym, ap, _∙_}
 use Prim.Native.Nat.{ℕ, _/_}
 use borrow.Author.Needs.{needs}

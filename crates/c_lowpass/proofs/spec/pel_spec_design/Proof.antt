@@ -1,4 +1,5 @@
--- `c_lowpass::spec::pel_spec_design` meets its contract: the length, and then what `spec_prepare` answers. Assumes nothing.
+-- `c_lowpass::spec::pel_spec_design` meets its contract: the length, and then what `spec_prepare` answers. Assumes
+-- nothing.
 use mathlib.Core.Path.{ap}
 use Prim.Native.Nat.{ℕ, _/_}
 use lib.ListN.{length}

@@ -1,4 +1,5 @@
--- `c_sections::cascade::pel_butterworth_sos` meets its contract: the code, the length, and then what `write_cascade` writes. Assumes nothing.
+-- `c_sections::cascade::pel_butterworth_sos` meets its contract: the code, the length, and then what `write_cascade`
+-- writes. Assumes nothing.
 use mathlib.Core.Path.{refl, sym, ap, _∙_}
 use Prim.Native.Nat.{ℕ, _/_}
 use borrow.Author.Needs.{needs}

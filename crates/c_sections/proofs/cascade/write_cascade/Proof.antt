@@ -1,4 +1,5 @@
--- `c_sections::cascade::write_cascade` meets its contract: what `judge` answers, and then the part of the array that `butterworth_sos` fills. Assumes nothing.
+-- `c_sections::cascade::write_cascade` meets its contract: what `judge` answers, and then the part of the array that
+-- `butterworth_sos` fills. Assumes nothing.
 use mathlib.Core.Path.{_≡_, sym, ap, _∙_}
 use mathlib.Core.List.{List, _++_}
 use Prim.Native.Nat.{ℕ, _*_, _/_, _≤_}

@@ -1,4 +1,5 @@
--- `c_sections::section::pel_biquad_coefs` meets its contract: the code, the length, and then what `biquad_coefs` answers. Assumes nothing.
+-- `c_sections::section::pel_biquad_coefs` meets its contract: the code, the length, and then what `biquad_coefs`
+-- answers. Assumes nothing.
 use mathlib.Core.Path.{sym, ap, _∙_}
 use Prim.Native.Nat.{ℕ, _*_}
 use borrow.Author.Needs.{needs}

@@ -1,4 +1,5 @@
--- `c_sections::section::pel_preemphasis_coefs` meets its contract: the length, and then what `preemphasis_coefs` answers. Assumes nothing.
+-- `c_sections::section::pel_preemphasis_coefs` meets its contract: the length, and then what `preemphasis_coefs`
+-- answers. Assumes nothing.
 use mathlib.Core.Path.{ap, _∙_}
 use Prim.Native.Nat.{ℕ, _*_}
 use borrow.Author.Needs.{needs}

@@ -1,4 +1,5 @@
--- `c_windows::write::put_samples` meets its contract. The loop keeps the samples so far at the front of the buffer, and the arguments of the next two. Assumes nothing.
+-- `c_windows::write::put_samples` meets its contract. The loop keeps the samples so far at the front of the buffer, and
+-- the arguments of the next two. Assumes nothing.
 use mathlib.Core.Path.{_≡_, refl, ap, _∙_}
 use mathlib.Core.List.{List}
 use Prim.Native.Nat.{ℕ, _+_, _*_, _/_, _-_, _^_, _%_, _<_, _≤_}
@@ -52,7 +53,8 @@ Inv-loop shape i0 d sample out₀ wide n x₀ y₀ i₀ out x y i = Filling samp
 abbrev μ-loop : tie.MeasureT-loop
 μ-loop shape i0 d sample out₀ wide n x₀ y₀ i₀ out x y i = n - i
 
--- where the loop's test stands: how it began, the width, and that the next three indices and the place of a sample in the buffer fit a usize
+-- where the loop's test stands: how it began, the width, and that the next three indices and the place of a sample in
+-- the buffer fit a usize
 abbrev start : tie.At-loop Inv-loop μ-loop → tie.Start Inv-loop μ-loop
 start at = at .before .before .before .before .before .before
 

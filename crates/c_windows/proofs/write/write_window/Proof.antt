@@ -1,4 +1,5 @@
--- `c_windows::write::write_window` meets its contract: the code, the length, the shape, and then the window. Assumes nothing.
+-- `c_windows::write::write_window` meets its contract: the code, the length, the shape, and then the window. Assumes
+-- nothing.
 use mathlib.Core.Path.{_≡_, sym, _∙_}
 use Prim.Native.Nat.{_<_}
 use native.Mathlib.Nat.{mod-le}

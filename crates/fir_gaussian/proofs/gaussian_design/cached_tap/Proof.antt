@@ -1,4 +1,5 @@
--- `fir_gaussian::gaussian_design::cached_tap` meets its contract: a raw tap that was kept is the one worked out. Assumes nothing.
+-- `fir_gaussian::gaussian_design::cached_tap` meets its contract: a raw tap that was kept is the one worked out.
+-- Assumes nothing.
 use Rattle.fir_gaussian.specs.GaussianLaws.{cached-is}
 use borrow.Author.Needs.{needs}
 use Rattle.fir_gaussian.proofs.gaussian_design.cached_tap.Statement.{statement}

@@ -1,4 +1,5 @@
--- `fir_gaussian::gaussian_design::prepare` meets its contract: what each test says, and then an answer at a time. Assumes nothing.
+-- `fir_gaussian::gaussian_design::prepare` meets its contract: what each test says, and then an answer at a time.
+-- Assumes nothing.
 use mathlib.Core.Path.{_≡_, sym, _∙_}
 use mathlib.Core.Bool.{true}
 use Prim.Native.Nat.{_+_, _-_, _*_, _/_, _^_, _≤_}

@@ -1,4 +1,5 @@
--- `fir_gaussian::gaussian_design::total` meets its contract. The loop's invariant: the sum of the taps so far, and the first of them kept. Assumes nothing.
+-- `fir_gaussian::gaussian_design::total` meets its contract. The loop's invariant: the sum of the taps so far, and the
+-- first of them kept. Assumes nothing.
 use mathlib.Core.Path.{_≡_, refl, sym, ap, _∙_, subst}
 use mathlib.Core.List.{List}
 use Prim.Native.Nat.{ℕ, _+_, _≤_, _-_}

@@ -1,4 +1,5 @@
--- `fir_length::order::kaiserord` meets its contract: what each test says, and then an answer at a time. Assumes nothing.
+-- `fir_length::order::kaiserord` meets its contract: what each test says, and then an answer at a time. Assumes
+-- nothing.
 use mathlib.Core.Path.{_≡_, sym, ap, _∙_}
 use mathlib.Core.Bool.{true, false}
 use borrow.Author.Needs.{needs}

@@ -1,4 +1,5 @@
--- `fir_lowpass::lowpass::cached_tap` meets its contract: a raw tap that was kept is the one worked out. Assumes nothing.
+-- `fir_lowpass::lowpass::cached_tap` meets its contract: a raw tap that was kept is the one worked out. Assumes
+-- nothing.
 use Rattle.fir_lowpass.specs.CachedLaws.{cached-is}
 use borrow.Author.Needs.{needs}
 use Rattle.fir_lowpass.proofs.lowpass.cached_tap.Statement.{statement}

@@ -1,4 +1,5 @@
--- `fir_lowpass::lowpass::fill` meets its contract. The loop's invariant: the taps so far stand at the front. Assumes nothing.
+-- `fir_lowpass::lowpass::fill` meets its contract. The loop's invariant: the taps so far stand at the front. Assumes
+-- nothing.
 use mathlib.Core.Path.{_≡_, ap, _∙_}
 use Prim.Native.Nat.{_≤_, _-_}
 use native.Mathlib.Omega.{arith}

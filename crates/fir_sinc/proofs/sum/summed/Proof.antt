@@ -1,4 +1,5 @@
--- `fir_sinc::sum::summed` meets its contract. The invariant: the sum of the taps so far, the first of them kept, what they are without their window, and the arguments of the next two. Assumes nothing.
+-- `fir_sinc::sum::summed` meets its contract. The invariant: the sum of the taps so far, the first of them kept, what
+-- they are without their window, and the arguments of the next two. Assumes nothing.
 use mathlib.Core.Path.{_≡_, refl, ap, _∙_}
 use Prim.Native.Nat.{ℕ, _+_, _-_}
 use native.Mathlib.Omega.{arith}

@@ -1,4 +1,5 @@
--- `fir_sinc::window::values_of` meets its contract. Kaiser's are worked out together, the others each by itself. Assumes nothing.
+-- `fir_sinc::window::values_of` meets its contract. Kaiser's are worked out together, the others each by itself.
+-- Assumes nothing.
 use mathlib.Core.Path.{sym, _∙_}
 use borrow.Author.Needs.{needs}
 use Rattle.fir_sinc.specs.StepLaws.{valueOf}

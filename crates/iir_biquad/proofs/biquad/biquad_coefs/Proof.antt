@@ -1,4 +1,5 @@
--- `iir_biquad::biquad::biquad_coefs` meets its contract: what each test says, and then an answer at a time. Assumes nothing.
+-- `iir_biquad::biquad::biquad_coefs` meets its contract: what each test says, and then an answer at a time. Assumes
+-- nothing.
 use mathlib.Core.Path.{_≡_, sym, _∙_}
 use mathlib.Core.Bool.{true}
 use borrow.Author.Needs.{needs}

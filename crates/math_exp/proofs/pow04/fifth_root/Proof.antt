@@ -1,4 +1,5 @@
--- `math_exp::pow04::fifth_root` meets its contract. The loop's invariant: the steps that are left lead from here to where all of them lead from 4. Assumes nothing.
+-- `math_exp::pow04::fifth_root` meets its contract. The loop's invariant: the steps that are left lead from here to
+-- where all of them lead from 4. Assumes nothing.
 use mathlib.Core.Path.{_≡_, refl, sym, _∙_}
 use Prim.Native.Nat.{_≤_}
 use borrow.Author.Needs.{needs}

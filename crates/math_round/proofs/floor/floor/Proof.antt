@@ -1,4 +1,5 @@
--- `math_round::floor::floor` meets its contract: both ways give the floor, and the short one asks for a small size. Assumes nothing.
+-- `math_round::floor::floor` meets its contract: both ways give the floor, and the short one asks for a small size.
+-- Assumes nothing.
 use lib.Ieee.{ofBits, neg}
 use borrow.Author.Needs.{needs}
 use Rattle.math_round.specs.NearPaths.{small-of}

@@ -1,4 +1,5 @@
--- `math_sqrt::digits::digit` meets its contract. The shift loses nothing, and each answer is the next step of `Going`. Assumes nothing.
+-- `math_sqrt::digits::digit` meets its contract. The shift loses nothing, and each answer is the next step of `Going`.
+-- Assumes nothing.
 use native.Mathlib.Omega.{arith}
 use borrow.Author.Needs.{needs}
 use Rattle.math_sqrt.specs.Digits.{one, none, bit}

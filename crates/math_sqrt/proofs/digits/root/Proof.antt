@@ -1,4 +1,5 @@
--- `math_sqrt::digits::root` meets its contract. The digits come from the place 2 ^ 53 down; the invariant is `Going`. Assumes nothing.
+-- `math_sqrt::digits::root` meets its contract. The digits come from the place 2 ^ 53 down; the invariant is `Going`.
+-- Assumes nothing.
 use Prim.Native.Nat.{_≤_, _^_}
 use native.Mathlib.Omega.{arith}
 use borrow.Author.Needs.{needs}

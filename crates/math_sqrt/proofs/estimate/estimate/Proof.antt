@@ -1,4 +1,5 @@
--- `math_sqrt::estimate::estimate` meets its contract. Neither pattern is that of a NaN: the one is that of a number from 1 up to 2, and a NaN is not below 2. Assumes nothing.
+-- `math_sqrt::estimate::estimate` meets its contract. Neither pattern is that of a NaN: the one is that of a number
+-- from 1 up to 2, and a NaN is not below 2. Assumes nothing.
 use mathlib.Core.Logic.{⊎-elim}
 use Prim.Native.Nat.{_+_, _*_, _^_}
 use native.Mathlib.Omega.{arith}

@@ -1,4 +1,5 @@
--- `math_sqrt::rounded::rounded` meets its contract. A guess that is settled is right, and so is half of the root. Assumes nothing.
+-- `math_sqrt::rounded::rounded` meets its contract. A guess that is settled is right, and so is half of the root.
+-- Assumes nothing.
 use native.Mathlib.Omega.{arith}
 use borrow.Author.Needs.{needs}
 use Rattle.math_sqrt.specs.WholeRoot.{root-digits}

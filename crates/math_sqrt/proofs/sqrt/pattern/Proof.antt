@@ -1,4 +1,5 @@
--- `math_sqrt::sqrt::pattern` meets its contract. The rounded root has 53 digits or is 2 ^ 53, so that the pattern fits a u64. Assumes nothing.
+-- `math_sqrt::sqrt::pattern` meets its contract. The rounded root has 53 digits or is 2 ^ 53, so that the pattern fits
+-- a u64. Assumes nothing.
 use native.Mathlib.Omega.{arith}
 use borrow.Author.Needs.{needs}
 use Rattle.math_sqrt.specs.Scaling.{finished}

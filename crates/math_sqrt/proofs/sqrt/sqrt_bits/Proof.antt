@@ -1,4 +1,5 @@
--- `math_sqrt::sqrt::sqrt_bits` meets its contract. A field of 0 is a subnormal value; any other adds the leading digit. Assumes nothing.
+-- `math_sqrt::sqrt::sqrt_bits` meets its contract. A field of 0 is a subnormal value; any other adds the leading digit.
+-- Assumes nothing.
 use Prim.Native.Nat.{_/_, _%_, _^_}
 use native.Mathlib.Omega.{arith}
 use borrow.Author.Needs.{needs}

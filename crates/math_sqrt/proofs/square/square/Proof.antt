@@ -1,4 +1,5 @@
--- `math_sqrt::square::square` meets its contract. The halves of the digits are few enough that no product wraps. Assumes nothing.
+-- `math_sqrt::square::square` meets its contract. The halves of the digits are few enough that no product wraps.
+-- Assumes nothing.
 use native.Mathlib.Omega.{arith}
 use borrow.Author.Needs.{needs}
 use Rattle.math_sqrt.specs.Square.{halves, squared}

@@ -1,4 +1,5 @@
--- `math_trig::reduce::modulo_4` meets its contract: the last two bits of a pattern, by `specs/Modulo.antt`. Assumes nothing.
+-- `math_trig::reduce::modulo_4` meets its contract: the last two bits of a pattern, by `specs/Modulo.antt`. Assumes
+-- nothing.
 use lib.Ieee.{ofBits}
 use Rattle.math_trig.proofs.Modulo.{modulo-is, modulo-asked}
 use Rattle.math_trig.proofs.reduce.modulo_4.Statement.{statement}

@@ -1,4 +1,5 @@
--- `replay_lines::line::read_digit` meets its contract: each answer is that of the tests on the way to it. Assumes nothing.
+-- `replay_lines::line::read_digit` meets its contract: each answer is that of the tests on the way to it. Assumes
+-- nothing.
 use borrow.Author.Tests.{lt-ltb, le-ltb, le-leb, lt-leb}
 use borrow.Author.Needs.{needs}
 use Rattle.replay_lines.specs.Digits.{digitOf}

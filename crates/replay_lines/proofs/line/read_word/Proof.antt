@@ -1,4 +1,5 @@
--- `replay_lines::line::read_word` meets its contract: after i digits the rest of them make what all of them do, and the value is below 16 ^ i. Assumes nothing.
+-- `replay_lines::line::read_word` meets its contract: after i digits the rest of them make what all of them do, and the
+-- value is below 16 ^ i. Assumes nothing.
 use mathlib.Core.Path.{_≡_, sym, _∙_}
 use Prim.Native.Nat.{_+_, _*_, _-_, _^_, _≤_, _<_}
 use native.Mathlib.Omega.{arith}

@@ -1,4 +1,5 @@
--- `replay_lines::offered::fill` is safe and ends: each turn is one element, of 8 bytes at most, and the buffer keeps its length. Assumes nothing.
+-- `replay_lines::offered::fill` is safe and ends: each turn is one element, of 8 bytes at most, and the buffer keeps
+-- its length. Assumes nothing.
 use mathlib.Core.Path.{_≡_}
 use Prim.Native.Nat.{_*_, _≤_, _-_}
 use lib.ListN.{length}

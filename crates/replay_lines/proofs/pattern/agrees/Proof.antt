@@ -1,4 +1,5 @@
--- `replay_lines::pattern::agrees` meets its contract: x != x tells a NaN, and one comparison its patterns. Assumes nothing.
+-- `replay_lines::pattern::agrees` meets its contract: x != x tells a NaN, and one comparison its patterns. Assumes
+-- nothing.
 use mathlib.Core.Path.{sym, _∙_}
 use lib.Ieee.{binary64}
 use lib.Ieee.Bits.{nanBits-above}

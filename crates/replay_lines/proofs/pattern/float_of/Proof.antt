@@ -1,4 +1,5 @@
--- `replay_lines::pattern::float_of` meets its contract: the test is the one that tells a NaN's pattern. Assumes nothing.
+-- `replay_lines::pattern::float_of` meets its contract: the test is the one that tells a NaN's pattern. Assumes
+-- nothing.
 use mathlib.Core.Path.{sym, _∙_}
 use borrow.Author.Tests.{lt-ltb, le-ltb}
 use borrow.Author.Needs.{needs}

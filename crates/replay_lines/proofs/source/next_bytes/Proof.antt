@@ -1,4 +1,5 @@
--- `replay_lines::source::next_bytes` meets its contract: the measure is the number of turns that are left. Assumes nothing.
+-- `replay_lines::source::next_bytes` meets its contract: the measure is the number of turns that are left. Assumes
+-- nothing.
 use Prim.Native.Nat.{_≤_}
 use borrow.Author.Needs.{needs}
 use Rattle.replay_lines.proofs.source.next_bytes.Statement.{statement}

@@ -1,4 +1,5 @@
--- `ticket_slices::half_band::halfband_taps` meets its contract: it fills a tap at a time, which agrees with the definition's buffer. The loop's invariant: the taps so far stand at the front. Assumes nothing.
+-- `ticket_slices::half_band::halfband_taps` meets its contract: it fills a tap at a time, which agrees with the
+-- definition's buffer. The loop's invariant: the taps so far stand at the front. Assumes nothing.
 use mathlib.Core.Path.{_≡_, refl, sym, ap, _∙_}
 use Prim.Native.Nat.{_≤_, _-_}
 use native.Mathlib.Omega.{arith}

@@ -1,4 +1,5 @@
--- `ticket_slices::rrc::rrc` meets its contract. The loop's invariant: the taps so far stand at the front. Assumes nothing.
+-- `ticket_slices::rrc::rrc` meets its contract. The loop's invariant: the taps so far stand at the front. Assumes
+-- nothing.
 use mathlib.Core.Path.{_≡_, sym, ap, _∙_}
 use Prim.Native.Nat.{_≤_, _-_}
 use native.Mathlib.Omega.{arith}

@@ -1,4 +1,5 @@
--- `win_sampled::fill::fill_f32` meets its contract; FillLaws has what it shares with the fill of Q15 numbers. Assumes nothing.
+-- `win_sampled::fill::fill_f32` meets its contract; FillLaws has what it shares with the fill of Q15 numbers. Assumes
+-- nothing.
 use mathlib.Core.Path.{ap, _∙_}
 use Prim.Native.Nat.{_-_}
 use native.Mathlib.Omega.{arith}

@@ -1,4 +1,5 @@
--- `win_sampled::shape::values_of` meets its contract. Kaiser's are worked out together, the others each by itself. Assumes nothing.
+-- `win_sampled::shape::values_of` meets its contract. Kaiser's are worked out together, the others each by itself.
+-- Assumes nothing.
 use mathlib.Core.Path.{sym, ap, _∙_}
 use borrow.Author.Needs.{needs}
 use Rattle.win_sampled.specs.declared.shape.Shape.{Shape}

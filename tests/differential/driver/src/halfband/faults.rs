@@ -76,7 +76,7 @@ pub const FAULTS: &[Fault] = faults![
         let lower = taps % (1 << 32);
         of(Ticket::HalfbandNew { beta, taps: if lower < 5000 { lower } else { taps } }, buffer)
     };
-    HalfbandNew, "1 over a multiple of 4 taken", |ticket, buffer| {
+    HalfbandNew, "1 mod 4 taken", |ticket, buffer| {
         let (beta, taps) = asked(ticket);
         let taken = taps % 4 == 1 && taps > 1 && taps < 1000 && beta_refused(beta).is_none();
         swapped(ticket, buffer, 6, taken.then(|| Report::accepted(taps, 1.0)))

@@ -40,7 +40,7 @@ fn telling_halfbands() -> Vec<(f64, u64)> {
     all
 }
 
-/// Counts past 2^24 that are 3 over a multiple of 4, and would be taken if they lost upper bits.
+/// Counts past 2^24 that are 3 mod 4, and would be taken if they lost upper bits.
 const LONG: [u64; 6] = [
     CAP + 3,
     (1 << 32) + 3,

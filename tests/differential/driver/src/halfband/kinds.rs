@@ -15,12 +15,12 @@ const EVEN: Case = case!("6 by an even number of taps", |ticket, report| {
     report.number == 6 && of_halfband(ticket, |_, taps| taps > 0 && taps.is_multiple_of(2))
 });
 
-const ONE_OVER: Case = case!("6 by 1 over a multiple of 4", |ticket, report| {
+const ONE_OVER: Case = case!("6 by 1 mod 4", |ticket, report| {
     report.number == 6 && of_halfband(ticket, |_, taps| taps % 4 == 1)
 });
 
 const LONG: Case = case!(
-    "6 above 2^24 at 3 over a multiple of 4",
+    "6 above 2^24 at 3 mod 4",
     |ticket, report| { report.number == 6 && of_halfband(ticket, |_, taps| taps % 4 == 3) }
 );
 

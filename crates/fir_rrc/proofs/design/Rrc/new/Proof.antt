@@ -1,4 +1,5 @@
--- `fir_rrc::design::Rrc::new` meets its contract: the roll-off first, and then by what came of the length. Assumes nothing.
+-- `fir_rrc::design::Rrc::new` meets its contract: the roll-off first, and then by what came of the length. Assumes
+-- nothing.
 use mathlib.Core.Path.{_≡_, sym, ap, _∙_}
 use native.Mathlib.Omega.{arith}
 use borrow.Author.Needs.{needs}
