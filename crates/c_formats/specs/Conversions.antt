@@ -12,34 +12,25 @@ use Rattle.wire.specs.Bytes.{floatsIn}
 use Rattle.verdict.specs.declared.Refusal.the-variants.{Length}
 use Rattle.verdict.specs.declared.Report.{Report}
 use Rattle.verdict.specs.declared.Verdict.{Verdict}
-use Rattle.verdict.specs.declared.Verdict.the-variants.{Done, Refused}
-use Rattle.c_formats.specs.declared.element.Format.{Format}
+use Rattle.verdict.specs.declared.Verdict.the-variants.{Refused}
 use Rattle.verdict.specs.Reports.{doneReport}
+use Rattle.verdict.specs.Converts.{takenOf, groupsOf, thenOf, leftOf}
+use Rattle.c_formats.specs.declared.element.Format.{Format}
 use Rattle.c_formats.specs.Formats.{widthOf, takesOf, outsideOf, bytesIn}
 
 -- the f64s of a source of bytes
 abbrev pub floats : List ℕ → List Float
 floats s = floatsIn (length s / 8) s
 
--- ---- the lengths, from m bytes to len bytes in elements of w bytes, of which g belong together (1 where none do)
--- a length that isn't whole elements is refused first, the source's before the destination's, in bytes; then a source that isn't whole groups, then two lengths that differ, both in elements
+-- the lengths, from m bytes to len bytes in elements of w bytes, of which g belong together: one that isn't whole
+-- elements is refused first, the source's before the destination's, in bytes; then as `groupsOf`, in elements
 unfoldable pub lengthsOf : ℕ → ℕ → ℕ → ℕ → Verdict
 lengthsOf w g m len =
-    let n = m / 8 in
     cond (eqb (m % 8) 0)
     (cond (eqb (len % w) 0)
-    (cond (eqb (n % g) 0)
-    (cond (eqb n (len / w))
-    Done
-    (Refused (Length n (len / w))))
-    (Refused (Length (n - n % g) n)))
+    (groupsOf g (m / 8) (len / w))
     (Refused (Length (len - len % w) len)))
     (Refused (Length (m - m % 8) m))
-
--- ---- the elements
--- all are taken, or the first that isn't is named
-unfoldable pub takenOf : Format → List Float → Verdict
-takenOf f s = let k = firstBad (takesOf f) s in cond (eqb k (length s)) Done (Refused (outsideOf f k (getD s k nan)))
 
 -- the elements up to the first that isn't taken, the rest as it came
 unfoldable pub storedOf : Format → List Float → List ℕ → List ℕ
@@ -47,20 +38,10 @@ storedOf f s d = chunked (widthOf f) (firstBad (takesOf f) s) (λ i. bytesIn f (
 
 -- where both lengths are right
 pub record ConvertsWhole (f : Format) (s before : List ℕ) (r : Verdict) (after : List ℕ) : Type 0 where
-  pub answer : r ≡ takenOf f (floats s)
+  pub answer : r ≡ takenOf (takesOf f) (outsideOf f) (floats s)
   pub buffer : after ≡ storedOf f (floats s) before
-
--- ---- all of it
--- what comes after the lengths
-abbrev pub thenOf : Verdict → Verdict → Verdict
-thenOf Done c = c
-thenOf (Refused why) c = Refused why
-
-abbrev pub leftOf : Verdict → List ℕ → List ℕ → List ℕ
-leftOf Done after before = after
-leftOf (Refused why) after before = before
 
 -- what the answer and the destination are afterwards
 pub record ConvertsBytes (f : Format) (g : ℕ) (s before : List ℕ) (r : Report) (after : List ℕ) : Type 0 where
-  pub answer : r ≡ doneReport (length s / 8) (thenOf (lengthsOf (widthOf f) g (length s) (length before)) (takenOf f (floats s)))
+  pub answer : r ≡ doneReport (length s / 8) (thenOf (lengthsOf (widthOf f) g (length s) (length before)) (takenOf (takesOf f) (outsideOf f) (floats s)))
   pub buffer : after ≡ leftOf (lengthsOf (widthOf f) g (length s) (length before)) (storedOf f (floats s) before) before

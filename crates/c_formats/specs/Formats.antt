@@ -1,16 +1,15 @@
 -- What an f64 is in each format: whether it is taken, and its bit pattern. Definitions only.
 use Prim.Native.Nat.{ℕ}
-use mathlib.Core.Bool.{Bool, true, false, cond}
+use mathlib.Core.Bool.{Bool, true, cond}
 use mathlib.Core.List.{List}
-use lib.Ieee.{Float, inf, binary32, toBits}
+use lib.Ieee.{Float, binary32, toBits}
 use Rattle.wire.specs.Bytes.{bytesOf, twosOf}
 use Rattle.verdict.specs.declared.Refusal.{Refusal}
-use Rattle.verdict.specs.declared.Refusal.the-variants as Refusal
 use Rattle.fmt_q15.specs.Q15 as Q15
 use Rattle.fmt_q14.specs.Q14 as Q14
 use Rattle.fmt_q15.specs.declared.q15.Coded.{Coded}
 use Rattle.fmt_q15.specs.declared.q15.Coded.the-variants as Coded
-use Rattle.fmt_f32.specs.Single.{singleOf}
+use Rattle.fmt_f32.specs.Single.{singleOf, anyOutside}
 use Rattle.c_formats.specs.declared.element.Format.{Format}
 use Rattle.c_formats.specs.declared.element.Format.the-variants as Format
 use Rattle.c_formats.specs.declared.element.Encoded.{Encoded}
@@ -24,9 +23,9 @@ widthOf Format.Single = 4
 
 -- every value has an f32
 unfoldable pub takesOf : Format → Float → Bool
-takesOf Format.Q15 x = Q15.takes x
-takesOf Format.Q14 x = Q14.takes x
-takesOf Format.Single x = true
+takesOf Format.Q15 = Q15.takes
+takesOf Format.Q14 = Q14.takes
+takesOf Format.Single = λ x. true
 
 unfoldable pub patternOf : Format → Float → ℕ
 patternOf Format.Q15 x = twosOf (Q15.q15Of x)
@@ -35,9 +34,9 @@ patternOf Format.Single x = toBits binary32 (singleOf x)
 
 -- what is told of x at index i where it isn't taken: the range that is
 unfoldable pub outsideOf : Format → ℕ → Float → Refusal
-outsideOf Format.Q15 i x = Q15.outside i x
-outsideOf Format.Q14 i x = Q14.outside i x
-outsideOf Format.Single i x = Refusal.Element i (inf true) (inf false) x
+outsideOf Format.Q15 = Q15.outside
+outsideOf Format.Q14 = Q14.outside
+outsideOf Format.Single = anyOutside
 
 unfoldable pub encodedOf : Format → ℕ → Float → Encoded
 unfolding takesOf patternOf outsideOf

@@ -114,7 +114,8 @@ fn put_elements(format: Format, src: &[u8], out: &mut [u8]) -> Verdict
     Verdict::Done
 }
 
-// The f32s of a source of whole f64s. Every value has one, so nothing is asked of an element, and the loop is a load, a few operations and a store.
+// The f32s of a source of whole f64s. Every value has one, so nothing is asked of an element, and the loop is a load, a
+// few operations and a store.
 fn put_singles(src: &[u8], out: &mut [u8])
     requires { ⌜ length (now src) % 8 ≡ 0 ⌝ ∗ ⌜ length (now out) ≡ widthOf Single * (length (now src) / 8) ⌝ }
     ensures { λ _. ⌜ ConvertsWhole Single (now (src .entry)) (now (out .entry)) Done (now (out .exit)) ⌝ }
@@ -141,7 +142,8 @@ fn put_all(format: Format, src: &[u8], out: &mut [u8]) -> Verdict
     }
 }
 
-// Converts a buffer and tells how many elements as the count; tells a refusal, and leaves the destination but for an 11's prefix.
+// Converts a buffer and tells how many elements as the count; tells a refusal, and leaves the destination but for an
+// 11's prefix.
 pub(crate) fn convert(format: Format, group: u64, src: &[u8], out: &mut [u8]) -> Report
     requires { ⌜ 0 < group ⌝ }
     ensures { λ r. ⌜ ConvertsBytes format group (now (src .entry)) (now (out .entry)) r (now (out .exit)) ⌝ }

@@ -1,4 +1,5 @@
--- The pattern of a value of one format rounded to another, which has r digits less and whose smallest normal value is 2 ^ e times as large. Over any two formats. Assumes nothing.
+-- The pattern of a value of one format rounded to another, which has r digits less and whose smallest normal value is 2
+-- ^ e times as large. Over any two formats. Assumes nothing.
 use mathlib.Core.Path.{_≡_, ap, _∙_, subst}
 use mathlib.Core.Bool.{Bool, cond}
 use Prim.Native.Nat.{ℕ, zero, suc, _+_, _-_, _*_, _^_, _≤_, _<_}

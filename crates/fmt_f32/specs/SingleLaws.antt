@@ -1,4 +1,5 @@
--- What `pattern_of` and `narrow` rest on: the pattern of a value is the bit of its sign and the pattern without it, and what is rounded is a value of its format. Assumes nothing.
+-- What `pattern_of` and `narrow` rest on: the pattern of a value is the bit of its sign and the pattern without it, and
+-- what is rounded is a value of its format. Assumes nothing.
 use mathlib.Core.Path.{_≡_, sym, ap, _∙_, subst}
 use mathlib.Core.Bool.{Bool, true, false, not, cond}
 use Prim.Native.Nat.{ℕ, _+_, _*_, _/_, _%_, _≤_, _<_}

@@ -1,4 +1,6 @@
--- What each path of `pattern_of_bits` and `small_pattern` answers. binary64 has 29 digits more than binary32, and 896 exponents more below: a field of 897 and on is a normal f32's, one of 873 and on isn't all rounded away. Assumes nothing.
+-- What each path of `pattern_of_bits` and `small_pattern` answers. binary64 has 29 digits more than binary32, and 896
+-- exponents more below: a field of 897 and on is a normal f32's, one of 873 and on isn't all rounded away. Assumes
+-- nothing.
 use mathlib.Core.Path.{_≡_, refl, ap, _∙_}
 use mathlib.Core.Bool.{Bool, cond}
 use Prim.Native.Nat.{ℕ, suc, _+_, _-_, _*_, _/_, _%_, _^_, _≤_, _<_, compare}

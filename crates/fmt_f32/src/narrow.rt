@@ -6,7 +6,8 @@ ghost use lib.Ieee.Nearest.{closest};
 ghost use Rattle.fmt_f32.specs.Single.{singleOf};
 ghost use Rattle.fmt_f32.specs.Sized.{Narrowed};
 
-// The pattern of the f32 nearest x: an infinity from 2^128 − 2^103 on, a subnormal or a zero of its sign below 2^−126; 7FC00000 for a NaN. Example: 1.5 gives 3FC00000.
+// The pattern of the f32 nearest x: an infinity from 2^128 − 2^103 on, a subnormal or a zero of its sign below 2^−126;
+// 7FC00000 for a NaN. Example: 1.5 gives 3FC00000.
 pub fn pattern_of(x: f64) -> u32
     ensures { λ r. ⌜ r ≡ toBits binary32 (singleOf x) ⌝ }
 {
@@ -16,7 +17,9 @@ pub fn pattern_of(x: f64) -> u32
     pattern_of_bits(f64::to_bits(x))
 }
 
-// The same of the f64 with the pattern b: whole numbers alone, so a buffer's elements need not become f64s. The field of the exponent is 1023 more than the exponent; the f32's is 127 more. A NaN is told among the large sizes, so that the usual ones are spared the test.
+// The same of the f64 with the pattern b: whole numbers alone, so a buffer's elements need not become f64s. The field
+// of the exponent is 1023 more than the exponent; the f32's is 127 more. A NaN is told among the large sizes, so that
+// the usual ones are spared the test.
 pub fn pattern_of_bits(b: u64) -> u32
     ensures { λ r. ⌜ r ≡ toBits binary32 (singleOf (ofBits binary64 b)) ⌝ }
 {

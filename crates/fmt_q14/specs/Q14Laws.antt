@@ -1,17 +1,16 @@
--- What `q14_from_f64` rests on: the two tests of the floor tell together whether the value is finite and its floor has 16 bits, and then casting the floor to an i16 gives it back. And what the outcome of one number tells. Assumes nothing.
+-- What `q14_from_f64` rests on: the two tests of the floor tell together whether the value is finite and its floor has
+-- 16 bits, and then casting the floor to an i16 gives it back. And what the outcome of one number tells. Assumes
+-- nothing.
 use mathlib.Core.Path.{_≡_, refl, sym, ap, _∙_, subst}
 use mathlib.Core.Bool.{Bool, true, false, _&&_, cond, true≢false}
-use Prim.Native.Nat.{ℕ, zero, suc, _^_, _<_}
-use native.Mathlib.Nat.{lt-of-le-of-lt}
+use Prim.Native.Nat.{ℕ, zero, suc}
 use native.Mathlib.Omega.{arith}
 use borrow.Author.Tests.{leb-true, leb-false, le-leb, lt-leb}
 use lib.Dec.{leb, lit≤}
-use lib.Signed.{mag}
-use lib.IntN.{ℤ, pos, negsuc}
+use lib.IntN.{ℤ, pos}
 use lib.Ieee.{Float, nan, inf, fin, round, le, eq}
 use lib.Ieee.Scale.{finite}
 use Rattle.laws.specs.Floor.{floorZ}
-use Rattle.laws.specs.Tests.{both}
 use Rattle.laws.specs.Units.{nought}
 use Rattle.laws.specs.WholeValues.{signed}
 use Rattle.math_round.specs.Whole.{floorOf}
@@ -93,15 +92,6 @@ code-high i x v e h = outcome i x false (sym (tests (moved x) v e) ∙ ap (λ (t
     none : (t : Bool) → (t && false) ≡ false
     none true = refl
     none false = refl
-
--- ---- the number has 16 bits where the value is taken
-pub q14-small : (x : Float) → takes x ≡ true → mag (q14Of x) < 2 ^ 15
-unfolding takes q14Of
-q14-small x h = go (floorZ (moved x)) (both (finite (moved x)) (in16 (floorZ (moved x))) h .1)
-  where
-    go : (z : ℤ) → in16 z ≡ true → mag z < 2 ^ 15
-    go (pos n) h = lt-of-le-of-lt (leb-true n 32767 h) (lit≤ tt)
-    go (negsuc n) h = lt-of-le-of-lt (leb-true n 32767 h) (lit≤ tt)
 
 -- ---- what the outcome of one number tells
 pub q14-number : (i : ℕ) (x : Float) (q : ℤ) → q14TapOf i x ≡ Coded.Number q → (takes x ≡ true) × (q14Of x ≡ q)

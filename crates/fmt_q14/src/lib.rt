@@ -4,7 +4,8 @@ use verdict::Refusal;
 use verdict::Verdict;
 ghost use mathlib.Core.Path.{_≡_};
 ghost use Rattle.math_round.specs.Whole.{floorOf};
-ghost use Rattle.fmt_q14.specs.Q14.{moved, q14TapOf, Converts};
+ghost use Rattle.verdict.specs.Converts.{Converts};
+ghost use Rattle.fmt_q14.specs.Q14.{moved, takes, outside, q14Of, q14TapOf};
 
 // The largest number that there is.
 const MOST: f64 = 2.0 - 1.0 / 16384.0;
@@ -12,7 +13,9 @@ const MOST: f64 = 2.0 - 1.0 / 16384.0;
 // 2^50, below which the floor has a short way. `floor` tests that too, but it is too long to stand within a loop.
 const SMALL: f64 = 1125899906842624.0;
 
-// floor(16384 x + 0.5), x being element i: 11 with the index and −2, 2 − 1/16384, x where that floor isn't in −32768 to 32767, or for a NaN. Nothing saturates. Example: 0.5 gives 8192, −2 gives −32768, and so does −2 − 2^−15; 2 − 2^−15 is refused.
+// floor(16384 x + 0.5), x being element i: 11 with the index and −2, 2 − 1/16384, x where that floor isn't in −32768 to
+// 32767, or for a NaN. Nothing saturates. Example: 0.5 gives 8192, −2 gives −32768, and so does −2 − 2^−15; 2 − 2^−15
+// is refused.
 pub fn q14_from_f64(i: u64, x: f64) -> Coded
     ensures { λ r. ⌜ r ≡ q14TapOf i x ⌝ }
 {
@@ -40,9 +43,12 @@ fn number(i: u64, x: f64, v: f64) -> Coded
     }
 }
 
-// Converts sections, five numbers each, one after the other. Refused, in this order: 8 a source that isn't whole sections, with the length to the last whole one and the length; 8 where the lengths differ; and then nothing is written; 11 at the first number that isn't taken, counted from the first of all, and then those before it are converted and the rest is as it came.
+// Converts sections, five numbers each, one after the other. Refused, in this order: 8 a source that isn't whole
+// sections, with the length to the last whole one and the length; 8 where the lengths differ; and then nothing is
+// written; 11 at the first number that isn't taken, counted from the first of all, and then those before it are
+// converted and the rest is as it came.
 pub fn to_q14(src: &[f64], dst: &mut [i16]) -> Verdict
-    ensures { λ r. ⌜ Converts (now (src .entry)) (now (dst .entry)) r (now (dst .exit)) ⌝ }
+    ensures { λ r. ⌜ Converts 5 takes outside q14Of (now (src .entry)) (now (dst .entry)) r (now (dst .exit)) ⌝ }
 {
     let n = src.len();
     if n % 5 != 0 {

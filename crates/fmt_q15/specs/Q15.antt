@@ -1,24 +1,17 @@
 -- Q15: a value as a whole number of 1/32768 in 16 bits. Definitions only.
 --   q = floor(32768 t + 0.5), saturated to −32768 .. 32767; sizes up to (1 − 1/32768) · 1.01 are taken
 use Prim.Native.Nat.{ℕ, min}
-use mathlib.Core.Path.{_≡_}
-use mathlib.Core.List.{List}
 use mathlib.Core.Bool.{Bool, true, false, cond}
-use lib.Dec.{eqb, leb}
-use lib.ListN.{length, getD}
+use lib.Dec.{leb}
 use lib.IntN.{ℤ, pos, negsuc}
 use lib.Ieee.{Float, nan, inf, fin, neg, le}
 use Rattle.laws.specs.Binary64.{_⊕_, _⊖_, _⊗_, _⊘_, whole, fraction}
-use Rattle.laws.specs.Filled.{filled}
 use Rattle.laws.specs.Floor.{floorZ}
-use Rattle.laws.specs.Prefix.{firstBad}
 use Rattle.verdict.specs.declared.Refusal.{Refusal}
-use Rattle.verdict.specs.declared.Refusal.the-variants.{Length, Element}
+use Rattle.verdict.specs.declared.Refusal.the-variants.{Element}
 use Rattle.math_round.specs.Whole.{absOf}
 use Rattle.fmt_q15.specs.declared.q15.Coded.{Coded}
 use Rattle.fmt_q15.specs.declared.q15.Coded.the-variants as Coded
-use Rattle.verdict.specs.declared.Verdict.{Verdict}
-use Rattle.verdict.specs.declared.Verdict.the-variants as Verdict
 
 -- ---- one value
 -- 32768 t + 0.5, whose floor is q
@@ -60,18 +53,3 @@ outside i t = Element i (neg limit) limit t
 unfoldable pub q15TapOf : ℕ → Float → Coded
 unfolding takes
 q15TapOf i t = cond (takes t) (Coded.Number (q15Of t)) (Coded.Refused (outside i t))
-
--- ---- a list of taps
--- the source's element i, and its number
-abbrev pub itemOf : List Float → ℕ → ℤ
-itemOf s i = q15Of (getD s i nan)
-
--- all are taken, or the first that isn't is named
-unfoldable pub toQ15Of : List Float → Verdict
-unfolding takes
-toQ15Of s = let k = firstBad takes s in cond (eqb k (length s)) Verdict.Done (Verdict.Refused (outside k (getD s k nan)))
-
--- what the answer and the destination are afterwards: the numbers up to the first element that isn't taken, the rest as it came
-pub record Converts (s : List Float) (before : List ℤ) (r : Verdict) (after : List ℤ) : Type 0 where
-  pub answer : r ≡ cond (eqb (length s) (length before)) (toQ15Of s) (Verdict.Refused (Length (length s) (length before)))
-  pub buffer : after ≡ cond (eqb (length s) (length before)) (filled (firstBad takes s) (itemOf s) before) before

@@ -1,12 +1,13 @@
--- What `q15_from_f64` rests on: each test of the floor tells whether it reaches that end of 16 bits, and between the ends casting the floor to an i16 gives it back. So the number always has 16 bits, and it is the floor where nothing saturates. And what the outcome of one tap tells. Assumes nothing.
+-- What `q15_from_f64` rests on: each test of the floor tells whether it reaches that end of 16 bits, and between the
+-- ends casting the floor to an i16 gives it back. So the number is the floor where nothing saturates. And what the
+-- outcome of one tap tells. Assumes nothing.
 use mathlib.Core.Path.{_≡_, refl, sym, ap, _∙_, subst}
 use mathlib.Core.Bool.{Bool, true, false, _&&_, _||_, cond, true≢false}
-use Prim.Native.Nat.{ℕ, zero, suc, _*_, _^_, _≤_, _<_, min}
+use Prim.Native.Nat.{ℕ, zero, suc, _*_, _≤_, _<_, min}
 use native.Mathlib.Nat.{not-suc-le-zero, le-of-suc-le-suc, le-of-lt}
 use native.Mathlib.Omega.{arith}
 use borrow.Author.Tests.{leb-true, leb-false, eqb-true, le-leb}
 use lib.Dec.{T, leb, eqb, lit≤}
-use lib.Signed.{mag}
 use lib.IntN.{ℤ, pos, negsuc}
 use lib.Ieee.{Float, nan, inf, fin, binary64, up, down, round, le, ne, eq}
 use lib.Ieee.Compare.{nan-differs}
@@ -138,45 +139,14 @@ module _ (w v : Float) (e : v ≡ floorOf w) (u : ne w w ≡ false) (a : le most
   pub code-between : eq v nought ≡ false → Cut v (codeIn w)
   code-between c = inner (λ v z. eq v nought ≡ false → Cut v z) between c
 
--- ---- the number has 16 bits, whatever the value
-pub q15-small : (t : Float) → mag (q15Of t) < 2 ^ 15
-unfolding q15Of
-q15-small t = go (moved t)
-  where
-    capped : (n : ℕ) → min n 32767 < 32768
-    capped n = omega arith
-
-    held : (z : ℤ) → mag (saturated z) < 2 ^ 15
-    held (pos n) = capped n
-    held (negsuc n) = capped n
-
-    go : (w : Float) → mag (codeIn w) < 2 ^ 15
-    go nan = lit≤ tt
-    go (inf true) = lit≤ tt
-    go (inf false) = lit≤ tt
-    go (fin s m e) = held (floorZ (fin s m e))
-
 -- ---- what the outcome of one tap tells
-abbrev isNumber : Coded → Bool
-isNumber (Coded.Number q) = true
-isNumber (Coded.Refused why) = false
-
-abbrev numberIn : Coded → ℤ
-numberIn (Coded.Number q) = q
-numberIn (Coded.Refused why) = pos 0
-
--- there is no refusal to fall back on, so the caller gives one
-abbrev refusalIn : Refusal → Coded → Refusal
-refusalIn other (Coded.Number q) = other
-refusalIn other (Coded.Refused why) = why
-
 pub number-tells : (b : Bool) (z q : ℤ) (why : Refusal) → cond b (Coded.Number z) (Coded.Refused why) ≡ Coded.Number q → (b ≡ true) × (z ≡ q)
-number-tells true z q why e = (refl, ap numberIn e)
-number-tells false z q why e = absurd (true≢false (sym (ap isNumber e)))
+number-tells true z q why e = (refl, cc)
+number-tells false z q why e = (cc, cc)
 
 pub refusal-tells : (b : Bool) (z : ℤ) (other why : Refusal) → cond b (Coded.Number z) (Coded.Refused other) ≡ Coded.Refused why → (b ≡ false) × (other ≡ why)
-refusal-tells true z other why e = absurd (true≢false (ap isNumber e))
-refusal-tells false z other why e = (refl, ap (refusalIn why) e)
+refusal-tells true z other why e = (cc, cc)
+refusal-tells false z other why e = (refl, cc)
 
 pub tap-number : (i : ℕ) (t : Float) (q : ℤ) → q15TapOf i t ≡ Coded.Number q → (takes t ≡ true) × (q15Of t ≡ q)
 unfolding q15TapOf

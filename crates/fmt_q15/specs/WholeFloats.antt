@@ -66,7 +66,8 @@ signs-order n k = by-sign (λ x. le x (rounded false k) ≡ true) true (by-sign 
     at : (m : ℕ) (e : ℤ) → le (fin true m e) (rounded false k) ≡ true
     at m e = by-sign (λ y. le (fin true m e) y ≡ true) false (unfold le in refl) (λ a b. unfold le in across (m * up e * down b) (a * up b * down e)) binary64 k 1
 
--- ---- a small k is reached where n reaches it: past 2 ^ 53 too, where n itself is rounded, since rounding keeps the order
+-- ---- a small k is reached where n reaches it: past 2 ^ 53 too, where n itself is rounded, since rounding keeps the
+-- order
 size-of : (x : Float) (k n d : ℕ) → 0 < d → HasValue x false k 1 → AtMost x n d → k * d ≤ n
 size-of nan k n d D v h = absurd v
 size-of (inf s) k n d D v h = absurd v

@@ -2,7 +2,8 @@
 use verdict::Refusal;
 use verdict::Verdict;
 ghost use mathlib.Core.Path.{_≡_};
-ghost use Rattle.fmt_q15.specs.Q15.{takes, q15Of, q15TapOf, Converts};
+ghost use Rattle.verdict.specs.Converts.{Converts};
+ghost use Rattle.fmt_q15.specs.Q15.{takes, outside, q15Of, q15TapOf};
 
 // The largest size that is taken: a hundredth above the largest Q15 number.
 const LIMIT: f64 = (1.0 - 1.0 / 32768.0) * 1.01;
@@ -13,7 +14,8 @@ pub enum Coded {
     Refused(Refusal),
 }
 
-// floor(32768 x + 0.5), held to −32768 and 32767; 0 for a NaN. So halves go up: 2^−16 gives 1 and −2^−16 gives 0. Zeros stand apart because a cast takes no −0.
+// floor(32768 x + 0.5), held to −32768 and 32767; 0 for a NaN. So halves go up: 2^−16 gives 1 and −2^−16 gives 0. Zeros
+// stand apart because a cast takes no −0.
 pub fn q15_from_f64(x: f64) -> i16
     ensures { λ r. ⌜ r ≡ q15Of x ⌝ }
 {
@@ -40,7 +42,8 @@ fn takes_tap(t: f64) -> bool
     math_round::fabs::fabs(t) <= LIMIT
 }
 
-// One tap as a Q15 number, t being element i: 11 with the index and −limit, limit, t where its size is above the limit or it is a NaN.
+// One tap as a Q15 number, t being element i: 11 with the index and −limit, limit, t where its size is above the limit
+// or it is a NaN.
 pub fn q15_tap(i: u64, t: f64) -> Coded
     ensures { λ r. ⌜ r ≡ q15TapOf i t ⌝ }
 {
@@ -51,9 +54,11 @@ pub fn q15_tap(i: u64, t: f64) -> Coded
     }
 }
 
-// Converts the source element by element. Refused: 8 where the lengths differ, and then nothing is written; 11 at the first element that isn't taken, and then those before it are converted and the rest is as it came. Example: 1, −1 gives 32767, −32768.
+// Converts the source element by element. Refused: 8 where the lengths differ, and then nothing is written; 11 at the
+// first element that isn't taken, and then those before it are converted and the rest is as it came. Example: 1, −1
+// gives 32767, −32768.
 pub fn to_q15(src: &[f64], dst: &mut [i16]) -> Verdict
-    ensures { λ r. ⌜ Converts (now (src .entry)) (now (dst .entry)) r (now (dst .exit)) ⌝ }
+    ensures { λ r. ⌜ Converts 1 takes outside q15Of (now (src .entry)) (now (dst .entry)) r (now (dst .exit)) ⌝ }
 {
     let n = src.len();
     if n != dst.len() {

@@ -2,13 +2,15 @@
 -- drop (w * n) d`.
 -- Over any element type and any width: f64, f32 and Q15 elements in a byte buffer are w = 8, 4 and 2.
 use mathlib.Core.Path.{_≡_, refl, sym, ap, _∙_}
-use mathlib.Core.List.{List, [], _++_, append-nil}
-use Prim.Native.Nat.{ℕ, zero, suc, _+_, _*_, _<_, _≤_}
-use native.Mathlib.Nat.{mul-suc, mul-zero}
+use mathlib.Core.List.{List, [], _++_, append-nil, append-assoc}
+use Prim.Native.Nat.{ℕ, zero, suc, _+_, _*_, _<_, _≤_, zero-le}
+use native.Mathlib.Nat.{mul-suc, mul-zero, mul-le-mul-left}
 use native.Mathlib.Numerals.{add-one}
 use native.Mathlib.Omega.{arith}
 use lib.ListN.{length, drop, length-append, length-drop, drop-of-length-le}
-use lib.Seq.{sets, sets-eq, take-at, drop-drop, drop-append-add}
+use Rattle.laws.specs.Cases.{either}
+use Rattle.laws.specs.Numbers.{lt-or-le}
+use lib.Seq.{sets, sets-eq, take-at, drop-drop, drop-append-add, drop-append-le}
 
 module _ {A : Type 0} where
   unfoldable pub chunks : ℕ → (ℕ → List A) → List A
@@ -58,3 +60,21 @@ module _ {A : Type 0} where
     -- all of them
     pub chunk-all : (n : ℕ) (d : List A) → length d ≤ w * n → chunked w n g d ≡ chunks n g
     chunk-all n d h = ap (λ (t : List A). chunks n g ++ t) (drop-of-length-le d h) ∙ append-nil (chunks n g)
+
+    -- of n chunks the first k by f: all of them, and any number
+    over-all : (f h : ℕ → List A) (k n : ℕ) → k ≤ n → n ≤ k → ((i : ℕ) → i < k → f i ≡ h i) → chunked w k f (chunks n g) ≡ chunks n h
+    over-all f h k n l m new =
+        let e : k ≡ n = omega arith in
+        ap (λ (t : List A). chunks k f ++ t) (drop-of-length-le (chunks n g) {i = w * k} (omega (arith, length-chunks n, mul-le-mul-left w m)))
+        ∙ append-nil (chunks k f) ∙ chunks-below k f h new ∙ ap (λ (j : ℕ). chunks j h) e
+
+    pub chunk-over : (f h : ℕ → List A) (k n : ℕ) → k ≤ n → ((i : ℕ) → i < k → f i ≡ h i) → ((i : ℕ) → k ≤ i → g i ≡ h i) → chunked w k f (chunks n g) ≡ chunks n h
+    unfolding chunks
+    chunk-over f h k zero l new old = over-all f h k zero l zero-le new
+    chunk-over f h k (suc n) l new old = either (lt-or-le k (suc n)) (λ m. more (omega arith) (chunk-over f h k n (omega arith) new old)) (λ m. over-all f h k (suc n) l m new)
+      where
+        more : k ≤ n → chunked w k f (chunks n g) ≡ chunks n h → chunked w k f (chunks n g ++ g n) ≡ chunks n h ++ h n
+        more m e =
+            ap (λ (t : List A). chunks k f ++ t) (drop-append-le (w * k) (chunks n g) (g n) (omega (arith, length-chunks n, mul-le-mul-left w m)))
+            ∙ sym (append-assoc (chunks k f) (drop (w * k) (chunks n g)) (g n))
+            ∙ ap (λ (t : List A). t ++ g n) e ∙ ap (λ (t : List A). chunks n h ++ t) (old n m)

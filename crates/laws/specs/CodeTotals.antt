@@ -1,13 +1,12 @@
 -- The codes of quotients by their sum add up to 32768, nearly: off by n · (1/2 + (1 + A) / 2^37) at most at an f64, A
 -- the sum of the quotients' sizes. It is no corollary of the quotients' own total, since 32768 t + 0.5 is itself
 -- rounded. Assumes nothing.
-use mathlib.Core.Path.{_≡_, refl, sym, ap, subst}
+use mathlib.Core.Path.{_≡_, refl, sym}
 use mathlib.Core.List.{List, [], _∷_}
 use Prim.Native.Nat.{ℕ, suc, _+_, _-_, _*_, _^_, _≤_, _<_}
 use native.Mathlib.Nat.{le-trans, le-of-eq, zero-add, add-zero, mul-assoc, mul-le-mul-left, mul-le-mul-right, le-of-mul-le-mul-left}
 use native.Mathlib.Omega.{arith}
-use mathlib.Core.Bool.{Bool, true, false, not}
-use lib.Dec.{T, lit≤, leb, leb→le, nleb→lt}
+use lib.Dec.{T, lit≤}
 use lib.ListN.{length}
 use lib.Pow.{pow-pos, pow-mono}
 use lib.IntN.{ℤ, pos, negsuc, natAbs, _-ℤ_}
@@ -18,37 +17,17 @@ use Rattle.laws.specs.Rounding.{Within, twice, times, cancel}
 use Rattle.laws.specs.Units.{mag, plus, less, nought}
 use Rattle.laws.specs.Floor.{posPart, negPart}
 use Rattle.laws.specs.SumError.{total, sumOf, Each}
-use Rattle.laws.specs.Quotients.{quotients, quotients-fit, quotients-length, facts}
+use Rattle.laws.specs.Quotients.{quotients, quotients-fit, quotients-length, excess, facts}
 use Rattle.laws.specs.Totals.{Is, is-add, is-abs, units, sumZ, abs-sum}
 use Rattle.laws.specs.Codes.{code, coded, codes-error, codes-size}
 
 -- ---- the theorem's arithmetic; X, Y and b are as for `normalized`
 key : (P H L X Y b n : ℕ) → H * 2 ≤ L → 8 * suc n ≤ P → P * X ≤ P * Y + (X + suc n * (H * b)) → Y ≤ 2 * suc n * (L * b)
     → suc n * (L * b) + 2 * Y + 2 * ((2 * n + 1) * X + suc n * (H * b)) ≤ 4 * suc n * (L * b + Y)
-key P H L X Y b n l k h y = go (leb X Y) (leb→le X Y) (nleb→lt X Y)
+key P H L X Y b n l k h y = go (X - Y) (omega arith) (excess P (8 * suc n) X Y (suc n * (H * b)) k h)
   where
-    goal : Type 0
-    goal = suc n * (L * b) + 2 * Y + 2 * ((2 * n + 1) * X + suc n * (H * b)) ≤ 4 * suc n * (L * b + Y)
-
-    hb : H * 2 * b ≤ L * b
-    hb = mul-le-mul-right b l
-
-    nhb : n * (H * 2 * b) ≤ n * (L * b)
-    nhb = mul-le-mul-left n hb
-
-    more : (D : ℕ) → X ≡ Y + D → suc n * (L * b) + 2 * Y + 2 * ((2 * n + 1) * X + suc n * (H * b)) ≤ 4 * suc n * (L * b + Y)
-    more D e =
-        let h' : P * (Y + D) ≤ P * Y + (Y + D + suc n * (H * b)) = subst (λ (x : ℕ). P * x ≤ P * Y + (x + suc n * (H * b))) e h in
-        let d : 8 * suc n * D ≤ P * D = mul-le-mul-right D k in
-        let nx : n * X ≡ n * (Y + D) = ap (λ (z : ℕ). n * z) e in
-        omega (arith, hb, nhb)
-
-    go : (v : Bool) → (T v → X ≤ Y) → (T (not v) → Y < X) → suc n * (L * b) + 2 * Y + 2 * ((2 * n + 1) * X + suc n * (H * b)) ≤ 4 * suc n * (L * b + Y)
-    go true g g' = let c : (2 * n + 1) * X ≤ (2 * n + 1) * Y = mul-le-mul-left (2 * n + 1) (g tt) in omega (arith, hb, nhb)
-    go false g g' = more (X - Y) (rest X Y (g' tt))
-      where
-        rest : (x y : ℕ) → y < x → x ≡ y + (x - y)
-        rest x y h = omega arith
+    go : (D : ℕ) → X ≤ Y + D → 8 * suc n * D ≤ X + suc n * (H * b) → suc n * (L * b) + 2 * Y + 2 * ((2 * n + 1) * X + suc n * (H * b)) ≤ 4 * suc n * (L * b + Y)
+    go D e d = omega (arith, mul-le-mul-right b l, mul-le-mul-left n (mul-le-mul-right b l), mul-le-mul-left n e)
 
 combine : (P L K b Pt Nt Qp Qn E F : ℕ) → Within (2 * P * (Qp * L + Nt * K)) (2 * P * (Qn * L + Pt * K)) E → Within (P * (Pt * b)) (P * ((Nt + L) * b)) F
     → Within (b * (2 * P * L * Qp)) (b * (2 * P * L * (Qn + K))) (b * E + 2 * K * F)

@@ -17,7 +17,7 @@ use Rattle.laws.specs.Rounding.{Within, grid-exact}
 use Rattle.laws.specs.Units.{parts-mag, mag, isNeg, part, plus, less, mag-cross, mag-of-value, round-value, digits}
 use Rattle.laws.specs.Operations.{dist, Close, add-finite, add-error}
 use Rattle.laws.specs.Floor.{floorZ, posPart, negPart, floor-units}
-use Rattle.laws.specs.SumError.{sumOf, Each}
+use Rattle.laws.specs.SumError.{sumOf, Each, dist-le}
 
 -- ---- definitions
 -- 2^15 and 1/2
@@ -83,9 +83,6 @@ tap P K L h tp tn wp wn qp qn D e g d u v =
 part-mul : (s : Bool) (n k : ℕ) → part s (n * k) ≡ part s n * k
 part-mul false n k = refl
 part-mul true n k = sym (zero-mul k)
-
-dist-le : (x y : ℕ) → dist x y ≤ x + y
-dist-le x y = omega arith
 
 pub code-error : (f : Format) (t : Float) → T (fits f t) → T (finite (moved f t))
     → Within (2 * 2 ^ prec f * (posPart (code f t) * 2 ^ low f + less f t * 2 ^ 15)) (2 * 2 ^ prec f * (negPart (code f t) * 2 ^ low f + plus f t * 2 ^ 15)) (2 ^ prec f * 2 ^ low f + 2 * ((plus f t + less f t) * 2 ^ 15) + 2 ^ low f)

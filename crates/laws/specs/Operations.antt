@@ -7,7 +7,6 @@ use mathlib.Core.Bool.{Bool, true, false, not, Bool·beq, cond}
 use lib.Dec.{T, T-not, ltb, eqb, ltb→lt, nltb→le}
 use lib.Pow.{pow-pos}
 use lib.Ieee.{Float, nan, inf, fin, Format, prec, low, up, down, unlike, round, sum, add, mul, div, fits}
-use lib.Ieee as I
 use lib.Ieee.Fits.{eq→eqb, up-pos, down-pos}
 use lib.Ieee.Positive.{first-pos}
 use lib.Ieee.Scale.{round-same, grid, finite}

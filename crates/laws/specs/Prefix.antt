@@ -1,9 +1,10 @@
 -- The index of the first element that fails a test, or the length where none does; and how a loop from the front finds
 -- it.
-use mathlib.Core.Path.{_≡_, ap}
+use mathlib.Core.Path.{_≡_, refl, ap}
 use mathlib.Core.Bool.{Bool, true, false}
 use mathlib.Core.List.{List, [], _∷_}
-use Prim.Native.Nat.{ℕ, suc, _+_, _<_, _≤_}
+use Prim.Native.Nat.{ℕ, suc, _+_, _<_, _≤_, zero-le}
+use native.Mathlib.Nat.{suc-le-suc-iff}
 use native.Mathlib.Numerals.{add-one}
 use native.Mathlib.Omega.{arith}
 use lib.ListN.{length, drop, getD, drop-of-length-le}
@@ -32,3 +33,18 @@ module _ {A : Type 0} (p : A → Bool) where
   pub bad-end : (l : List A) (i : ℕ) → length l ≤ i → firstBad (drop i l) ≡ 0
   unfolding firstBad
   bad-end l i h = ap firstBad (drop-of-length-le l h)
+
+  pub bad-le : (l : List A) → firstBad l ≤ length l
+  unfolding firstBad
+  bad-le [] = zero-le
+  bad-le (x ∷ l) = go (p x) (suc-le-suc-iff .1 (bad-le l))
+    where
+      go : (b : Bool) → suc (firstBad l) ≤ suc (length l) → oneMore b (firstBad l) ≤ suc (length l)
+      go true h = h
+      go false h = zero-le
+
+-- a test that everything passes
+pub bad-none : {A : Type 0} (l : List A) → firstBad (λ x. true) l ≡ length l
+unfolding firstBad
+bad-none [] = refl
+bad-none (x ∷ l) = ap suc (bad-none l)

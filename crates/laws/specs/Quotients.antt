@@ -1,16 +1,18 @@
 -- A list of values divided by their sum: the quotients add up to 1, nearly. Assumes nothing.
-use mathlib.Core.Path.{_≡_, refl, ap, _∙_, subst}
+use mathlib.Core.Path.{_≡_, refl, ap, _∙_}
 use mathlib.Core.List.{List, [], _∷_}
 use Prim.Native.Nat.{ℕ, suc, _+_, _-_, _*_, _^_, _≤_, _<_}
 use native.Mathlib.Nat.{mul-le-mul-left, mul-le-mul-right, mul-pos}
 use native.Mathlib.Omega.{arith}
 use mathlib.Core.Bool.{Bool, true, false, not, cond}
-use lib.Dec.{T, lit≤, leb, leb→le, nleb→lt}
+use lib.Dec.{T, lit≤}
 use lib.ListN.{length}
 use lib.Pow.{pow-pos, pow-mono}
 use lib.Ieee.{Float, Format, prec, low, binary32, binary64, unlike, div, fits}
 use lib.Ieee.Fits.{two, two-le-pos, div-fits}
 use lib.Ieee.Scale.{finite}
+use Rattle.laws.specs.Cases.{either}
+use Rattle.laws.specs.Numbers.{lt-or-le}
 use Rattle.laws.specs.Rounding.{Within, twice, times, cancel}
 use Rattle.laws.specs.Units.{mag, isNeg, part, plus, less, parts-mag, nought, nought-fits}
 use Rattle.laws.specs.Operations.{div-is, div-error}
@@ -129,28 +131,21 @@ exchange f xs true = (
 
 -- ---- the theorem's arithmetic
 -- X is the sum of the dividends' magnitudes times 2 ^ low, Y that of the quotients' times b, n + 1 their number
-key : (P H L X Y b n : ℕ) → H ≤ L → 2 * suc n ≤ P → P * X ≤ P * Y + (X + suc n * (H * b)) → (2 * n + 1) * X + suc n * (H * b) ≤ 2 * suc n * (L * b + Y)
-key P H L X Y b n l k h = go (leb X Y) (leb→le X Y) (nleb→lt X Y)
+-- What X has above Y is small: the error that is allowed is a part of X
+pub excess : (P k X Y E : ℕ) → k ≤ P → P * X ≤ P * Y + (X + E) → k * (X - Y) ≤ X + E
+excess P k X Y E l h = either (lt-or-le Y X) (λ m. more (X - Y) (omega arith)) (λ m. none (X - Y) (omega arith))
   where
-    hb : H * b ≤ L * b
-    hb = mul-le-mul-right b l
+    more : (D : ℕ) → X ≡ Y + D → k * D ≤ X + E
+    more D e = omega (arith, mul-le-mul-right D l, ap (λ (x : ℕ). P * x) e)
 
-    nhb : n * (H * b) ≤ n * (L * b)
-    nhb = mul-le-mul-left n hb
+    none : (D : ℕ) → D ≡ 0 → k * D ≤ X + E
+    none D e = omega (arith, ap (λ (x : ℕ). k * x) e)
 
-    more : (D : ℕ) → X ≡ Y + D → (2 * n + 1) * X + suc n * (H * b) ≤ 2 * suc n * (L * b + Y)
-    more D e =
-        let h' : P * (Y + D) ≤ P * Y + (Y + D + suc n * (H * b)) = subst (λ (x : ℕ). P * x ≤ P * Y + (x + suc n * (H * b))) e h in
-        let d : 2 * suc n * D ≤ P * D = mul-le-mul-right D k in
-        let nx : n * X ≡ n * (Y + D) = ap (λ (z : ℕ). n * z) e in
-        omega (arith, hb, nhb)
-
-    go : (v : Bool) → (T v → X ≤ Y) → (T (not v) → Y < X) → (2 * n + 1) * X + suc n * (H * b) ≤ 2 * suc n * (L * b + Y)
-    go true g g' = let c : (2 * n + 1) * X ≤ (2 * n + 1) * Y = mul-le-mul-left (2 * n + 1) (g tt) in omega (arith, hb, nhb)
-    go false g g' = more (X - Y) (rest X Y (g' tt))
-      where
-        rest : (x y : ℕ) → y < x → x ≡ y + (x - y)
-        rest x y h = omega arith
+key : (P H L X Y b n : ℕ) → H ≤ L → 2 * suc n ≤ P → P * X ≤ P * Y + (X + suc n * (H * b)) → (2 * n + 1) * X + suc n * (H * b) ≤ 2 * suc n * (L * b + Y)
+key P H L X Y b n l k h = go (X - Y) (omega arith) (excess P (2 * suc n) X Y (suc n * (H * b)) k h)
+  where
+    go : (D : ℕ) → X ≤ Y + D → 2 * suc n * D ≤ X + suc n * (H * b) → (2 * n + 1) * X + suc n * (H * b) ≤ 2 * suc n * (L * b + Y)
+    go D e d = omega (arith, mul-le-mul-right b l, mul-le-mul-left n (mul-le-mul-right b l), mul-le-mul-left n e)
 
 -- Pt and Nt are the sums of the quotients' parts, Fr and Br of the dividends', A and R of the magnitudes; b is the
 -- divisor's magnitude.

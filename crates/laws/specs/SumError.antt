@@ -57,7 +57,7 @@ twice-le P k n r Q K h =
     let a : 2 * k * r ≤ P * r = mul-le-mul-right r K in
     le-of-mul-le-mul-left {k = P} (le-trans h (omega arith)) Q
 
-dist-le : (x y : ℕ) → dist x y ≤ x + y
+pub dist-le : (x y : ℕ) → dist x y ≤ x + y
 dist-le x y = omega arith
 
 step : (P k a a' b b' z z' p l D : ℕ)

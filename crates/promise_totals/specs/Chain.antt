@@ -4,7 +4,7 @@
 use mathlib.Core.Path.{_≡_, refl, ap, _∙_, subst}
 use mathlib.Core.Bool.{Bool, true, false, cond}
 use mathlib.Core.List.{List}
-use Prim.Native.Nat.{ℕ, _-_, _*_, _/_, _%_, _<_}
+use Prim.Native.Nat.{ℕ, _*_, _/_, _%_, _<_}
 use native.Mathlib.Nat.{le-of-eq}
 use native.Mathlib.Omega.{arith}
 use borrow.Author.Tests.{eqb-true}
@@ -12,7 +12,7 @@ use lib.Dec.{eqb}
 use lib.ListN.{length, take, drop, getD}
 use lib.Ieee.{Float, nan}
 use Rattle.laws.specs.Chunks.{chunked, chunk-all}
-use Rattle.laws.specs.Filled.{length-tabulate, getD-tabulate}
+use Rattle.laws.specs.Filled.{getD-tabulate}
 use Rattle.laws.specs.Prefix.{firstBad}
 use Rattle.wire.specs.Bytes.{floatAt, codeBytes}
 use Rattle.wire.specs.Laws.{length-bytes}
@@ -24,12 +24,14 @@ use Rattle.verdict.specs.Report.{reportOf}
 use Rattle.fmt_q15.specs.Q15.{q15Of}
 use Rattle.verdict.specs.declared.Verdict.{Verdict}
 use Rattle.verdict.specs.declared.Verdict.the-variants.{Done, Refused}
+use Rattle.verdict.specs.Reports.{doneReport}
+use Rattle.verdict.specs.Converts.{takenOf, groupsOf, thenOf, leftOf}
+use Rattle.verdict.specs.ConvertsLaws.{only-done}
 use Rattle.c_formats.specs.declared.element.Format.{Format}
 use Rattle.c_formats.specs.declared.element.Format.the-variants.{Q15, Q14, Single}
-use Rattle.verdict.specs.Reports.{doneReport}
 use Rattle.c_formats.specs.Formats.{widthOf, takesOf, patternOf, outsideOf, bytesIn}
-use Rattle.c_formats.specs.Conversions.{floats, lengthsOf, takenOf, storedOf, thenOf, leftOf, ConvertsBytes}
-use Rattle.c_formats.specs.ConversionLaws.{only-done, right-lengths}
+use Rattle.c_formats.specs.Conversions.{floats, lengthsOf, storedOf, ConvertsBytes}
+use Rattle.c_formats.specs.ConversionLaws.{right-lengths, count}
 
 -- ---- an accepted conversion is done: none of its refusals has the number 0
 abbrev ZeroIsDone : Verdict → Type 0
@@ -39,9 +41,9 @@ cond-zero : (b : Bool) (c : Verdict) (why : Refusal) → (reportOf why .number �
 cond-zero true c why never h = h
 cond-zero false c why never h = λ n e. absurd (never e)
 
-length-some : (a b : ℕ) → reportOf (Length a b) .number ≡ 0 → ⊥
+length-zero : (b : Bool) (c : Verdict) (x y : ℕ) → ZeroIsDone c → ZeroIsDone (cond b c (Refused (Length x y)))
 unfolding reportOf
-length-some a b e = omega arith
+length-zero b c x y = cond-zero b c (Length x y) (λ e. omega arith)
 
 outside-some : (f : Format) (i : ℕ) (x : Float) → reportOf (outsideOf f i x) .number ≡ 0 → ⊥
 unfolding reportOf outsideOf
@@ -50,15 +52,11 @@ outside-some Q14 i x e = omega arith
 outside-some Single i x e = omega arith
 
 lengths-zero : (w g m len : ℕ) → ZeroIsDone (lengthsOf w g m len)
-unfolding lengthsOf
+unfolding lengthsOf groupsOf
 lengths-zero w g m len =
-    let n = m / 8 in
-    cond-zero (eqb (m % 8) 0) _ (Length (m - m % 8) m) (length-some (m - m % 8) m)
-    (cond-zero (eqb (len % w) 0) _ (Length (len - len % w) len) (length-some (len - len % w) len)
-    (cond-zero (eqb (n % g) 0) _ (Length (n - n % g) n) (length-some (n - n % g) n)
-    (cond-zero (eqb n (len / w)) Done (Length n (len / w)) (length-some n (len / w)) (λ k e. refl))))
+    length-zero (eqb (m % 8) 0) _ _ _ (length-zero (eqb (len % w) 0) _ _ _ (length-zero (eqb (m / 8 % g) 0) _ _ _ (length-zero (eqb (m / 8) (len / w)) _ _ _ (λ k e. refl))))
 
-taken-zero : (f : Format) (s : List Float) → ZeroIsDone (takenOf f s)
+taken-zero : (f : Format) (s : List Float) → ZeroIsDone (takenOf (takesOf f) (outsideOf f) s)
 unfolding takenOf
 taken-zero f s =
     let k = firstBad (takesOf f) s in
@@ -78,9 +76,9 @@ element-bytes f g s before after r c e i h =
     let bytes : ℕ → List ℕ = λ k. bytesIn f (getD (floats s) k nan) in
     let width : (k : ℕ) → length (bytesIn f (getD (floats s) k nan)) ≡ w = λ k. length-bytes w (patternOf f (getD (floats s) k nan)) in
     let lengths = lengthsOf w g (length s) (length before) in
-    let done = both-done lengths (takenOf f (floats s)) (lengths-zero w g (length s) (length before)) (taken-zero f (floats s)) n (subst (λ (z : Report). z .number ≡ 0) (c .answer) e) in
+    let done = both-done lengths (takenOf (takesOf f) (outsideOf f) (floats s)) (lengths-zero w g (length s) (length before)) (taken-zero f (floats s)) n (subst (λ (z : Report). z .number ≡ 0) (c .answer) e) in
     let bad = firstBad (takesOf f) (floats s) in
-    let all = eqb-true bad (length (floats s)) (only-done (eqb bad (length (floats s))) Done _ (done .1) .0) ∙ length-tabulate n (λ k. floatAt s (8 * k)) in
+    let all = eqb-true bad (length (floats s)) (only-done (eqb bad (length (floats s))) Done _ (done .1) .0) ∙ count s in
     let stored = ap (λ (l : Verdict). leftOf l (storedOf f (floats s) before) before) (done .0) in
     let written : after ≡ chunked w n bytes before = c .buffer ∙ stored ∙ ap (λ (k : ℕ). chunked w k bytes before) all in
     ap (λ (d : List ℕ). take w (drop (w * i) d)) (written ∙ chunk-all w bytes width n before (le-of-eq (right-lengths w g (length s) (length before) (done .0) .1)))

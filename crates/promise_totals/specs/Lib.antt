@@ -6,3 +6,4 @@ pub mod Written
 pub mod Mirror
 pub mod Met
 pub mod Chain
+pub mod Conversions

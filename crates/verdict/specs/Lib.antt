@@ -4,3 +4,5 @@ pub mod Outcome
 pub mod OutcomeLaws
 pub mod Counted
 pub mod Reports
+pub mod Converts
+pub mod ConvertsLaws

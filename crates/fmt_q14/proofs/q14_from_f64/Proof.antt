@@ -1,4 +1,5 @@
--- `fmt_q14::q14_from_f64` meets its contract: both ways give the floor, and the short one asks for a small size. Assumes nothing.
+-- `fmt_q14::q14_from_f64` meets its contract: both ways give the floor, and the short one asks for a small size.
+-- Assumes nothing.
 use lib.Ieee.{ofBits, ofInt, round, neg}
 use borrow.Author.Needs.{needs}
 use Rattle.math_round.specs.NearPaths.{small-of}

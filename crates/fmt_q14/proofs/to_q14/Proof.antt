@@ -1,26 +1,22 @@
--- `fmt_q14::to_q14` meets its contract. The loop's invariant: the numbers so far are taken, and what they convert to stands at the front. Assumes nothing.
-use mathlib.Core.Path.{_≡_, refl, sym, ap, _∙_, subst}
-use mathlib.Core.List.{List}
-use Prim.Native.Nat.{_≤_, _+_, _-_, _%_, _^_, _<_}
+-- `fmt_q14::to_q14` meets its contract. The loop's invariant: the numbers so far are taken, and what they convert to
+-- stands at the front. Assumes nothing.
+use mathlib.Core.Path.{sym, ap, _∙_}
+use Prim.Native.Nat.{_≤_, _-_}
 use native.Mathlib.Omega.{arith}
 use mir.Syntax.{w16}
-use mir.Val.{toZ, ofZ}
 use mir.ValLaws.{toZ-ofZ}
-use borrow.Author.Tests.{eq-eqb, ne-eqb}
 use borrow.Author.Needs.{needs}
-use lib.Signed.{mag}
 use lib.IntN.{ℤ}
-use lib.ListN.{length, set, drop, getD}
+use lib.ListN.{set, getD}
 use lib.Ieee.{nan}
-use Rattle.laws.specs.Filled.{filled, fill-none, fill-more, length-filled}
-use Rattle.laws.specs.Prefix.{firstBad, bad-start, bad-more, bad-here, bad-end}
-use Rattle.fmt_q14.specs.Q14.{takes, itemOf, toQ14Of}
-use Rattle.fmt_q14.specs.Q14Laws.{q14-small, q14-number, q14-refused}
+use Rattle.verdict.specs.ConvertsLaws.{part-group, other-count, same-count, Reached, stopped, all-taken, at-first, lengths-refused, same-size, one-more, ends}
+use Rattle.fmt_q14.specs.Q14.{takes, q14Of}
+use Rattle.fmt_q14.specs.Q14Laws.{q14-number, q14-refused}
 use Rattle.fmt_q14.proofs.to_q14.Statement.{statement}
 use Rattle.fmt_q14.proofs.to_q14.Tie as tie
 
 abbrev Inv-loop : tie.InvT-loop
-Inv-loop src dst₀ n i₀ dst i = (i ≤ n) × (firstBad takes src ≡ i + firstBad takes (drop i src)) × (dst ≡ filled i (itemOf src) dst₀)
+Inv-loop src dst₀ n i₀ dst i = (i ≤ n) × Reached takes q14Of src dst₀ i dst
 
 abbrev μ-loop : tie.MeasureT-loop
 μ-loop src dst₀ n i₀ dst i = n - i
@@ -29,24 +25,16 @@ sub-t12 : tie.Need-sub-t12 Inv-loop μ-loop
 sub-t12 c = omega arith
 
 returns : tie.Need-returns Inv-loop μ-loop
-returns c =
-    let e = ne-eqb (length (c .before .before .args .src .now) % 5) 0 (c .if1 .taken) in
-    record { answer = rw e; buffer = rw e }
+returns c = lengths-refused (part-group 5 _ _ (c .if1 .taken))
 
 returns-2 : tie.Need-returns-2 Inv-loop μ-loop
-returns-2 c =
-    let a = c .before .before .before .args in
-    let whole = eq-eqb (length (a .src .now) % 5) 0 (c .before .if1 .left) in
-    let e = ne-eqb (length (a .src .now)) (length (a .dst .now)) (c .if2 .taken) in
-    record { answer = rw (whole, e); buffer = rw (whole, e) }
+returns-2 c = lengths-refused (other-count 5 _ _ (c .before .if1 .left) (c .if2 .taken))
 
 loop-holds : tie.Need-loop-holds Inv-loop μ-loop
-loop-holds c = (omega arith, bad-start takes _, fill-none _ _)
+loop-holds c = (omega arith, at-first takes q14Of _ _)
 
 mul-q14-from-f64 : tie.Need-mul-q14-from-f64 Inv-loop μ-loop
-mul-q14-from-f64 c =
-    let start = c .before .before .before .before .before in
-    record { fits = omega (arith, start .good .0 .1) }
+mul-q14-from-f64 c = record { fits = omega (arith, c .before .before .before .before .before .good .0 .1) }
 
 shared-slice-read-q14-from-f64 : tie.Need-shared-slice-read-q14-from-f64 Inv-loop μ-loop
 shared-slice-read-q14-from-f64 c = omega arith
@@ -58,36 +46,25 @@ enum-known-coded : tie.Need-enum-known-coded Inv-loop μ-loop
 enum-known-coded c = search needs
 
 mul-q : tie.Need-mul-q Inv-loop μ-loop
-mul-q c =
-    let start = c .before .before .before .before .before .before .before .before .before .before in
-    record { fits = omega (arith, start .good .1 .0 .1) }
+mul-q c = record { fits = omega (arith, c .before .before .before .before .before .before .before .before .before .before .good .1 .0 .1) }
 
 slice-set-from-q : tie.Need-slice-set-from-q Inv-loop μ-loop
-slice-set-from-q c =
-    let at = c .before .before .before .before .before .before in
-    let e : length (at .loop .dst) ≡ length (at .before .before .before .before .args .dst .now) = ap length (at .loop .inv .2) ∙ length-filled _ _ _ (omega arith) in
-    omega arith
+slice-set-from-q c = omega (arith, same-size (c .before .before .before .before .before .before .loop .inv .1) (omega arith))
 
 enum-known-coded-2 : tie.Need-enum-known-coded-2 Inv-loop μ-loop
 enum-known-coded-2 c = search needs
 
 same-length : tie.Need-same-length Inv-loop μ-loop
-same-length c = ap length (c .before .before .before .before .before .before .loop .inv .2) ∙ length-filled _ _ _ (omega arith)
+same-length c = same-size (c .before .before .before .before .before .before .loop .inv .1) (omega arith)
 
 returns-3 : tie.Need-returns-3 Inv-loop μ-loop
-unfolding toQ14Of
 returns-3 c =
     let k = c .before in
     let at = k .before .before .before .before .before in
-    let a = at .before .before .before .before .args in
-    let s = a .src .now in
+    let s = at .before .before .before .before .args .src .now in
     let i = at .loop .i in
     let t = q14-refused i (getD s i nan) (k .coded2 .given .0 .0) (sym (k .before .before .q14-from-f64 .ensures) ∙ k .coded2 .given .1) in
-    let here : firstBad takes s ≡ i = omega (arith, bad-here takes s i nan (omega arith) (t .0), at .loop .inv .1) in
-    let whole = eq-eqb (length s % 5) 0 (at .before .before .if1 .left) in
-    let same = eq-eqb (length s) (length (a .dst .now)) (omega arith) in
-    let part = ne-eqb i (length s) (λ e. omega arith) in
-    record { answer = rw (whole, same, here, part, t .1); buffer = at .loop .inv .2 ∙ sym (rw (whole, same, here)) }
+    ends (at .loop .inv .1) (same-count 5 _ _ (at .before .before .if1 .left) (omega arith)) (stopped (at .loop .inv .1 .taken) (omega arith) (t .0) (t .1))
 
 add-i : tie.Need-add-i Inv-loop μ-loop
 add-i c = omega arith
@@ -99,33 +76,20 @@ loop-again : tie.Need-loop-again Inv-loop μ-loop
 loop-again c =
     let k = c .before in
     let at = k .before .before .before .before .before in
-    let a = at .before .before .before .before .args in
-    let s = a .src .now in
+    let s = at .before .before .before .before .args .src .now in
     let i = at .loop .i in
     let q = k .coded .given .0 .0 in
     let t = q14-number i (getD s i nan) q (sym (k .before .before .q14-from-f64 .ensures) ∙ k .coded .given .1) in
-    let more = bad-more takes s i nan (omega arith) (t .0) in
-    let stored = toZ-ofZ w16 q (record { sfits = subst (λ (z : ℤ). mag z < 2 ^ 15) (t .1) (q14-small (getD s i nan) (t .0)) }) in
-    let set-at = ap (λ (d : List ℤ). set d i (toZ w16 (ofZ w16 q))) (at .loop .inv .2) in
-    let set-to = ap (λ (z : ℤ). set (filled i (itemOf s) (a .dst .now)) i z) (stored ∙ sym (t .1)) in
-    (omega arith, omega (arith, more, at .loop .inv .1), set-at ∙ set-to ∙ fill-more i (itemOf s) (a .dst .now) (omega arith))
+    let stored = toZ-ofZ w16 q (record { sfits = c .known-told .given .0 .1 }) in
+    (omega arith, one-more (at .loop .inv .1) (omega arith) (omega arith) (t .0) (ap (λ (z : ℤ). set (at .loop .dst) i z) (stored ∙ sym (t .1))))
 
 same-length-2 : tie.Need-same-length-2 Inv-loop μ-loop
-same-length-2 c = ap length (c .before .loop .inv .2) ∙ length-filled _ _ _ (omega arith)
+same-length-2 c = same-size (c .before .loop .inv .1) (omega arith)
 
 returns-4 : tie.Need-returns-4 Inv-loop μ-loop
-unfolding toQ14Of
 returns-4 c =
     let at = c .before in
-    let a = at .before .before .before .before .args in
-    let s = a .src .now in
-    let i = at .loop .i in
-    let all : firstBad takes s ≡ length s = omega (arith, bad-end takes s i (omega arith), at .loop .inv .1) in
-    let end : i ≡ length s = omega arith in
-    let whole = eq-eqb (length s % 5) 0 (at .before .before .if1 .left) in
-    let same = eq-eqb (length s) (length (a .dst .now)) (omega arith) in
-    let full = eq-eqb (length s) (length s) refl in
-    record { answer = rw (whole, same, all, full); buffer = at .loop .inv .2 ∙ sym (rw (whole, same, all, end)) }
+    ends (at .loop .inv .1) (same-count 5 _ _ (at .before .before .if1 .left) (omega arith)) (all-taken (at .loop .inv .1 .taken) (omega arith))
 
 pub to-q14-spec : {M : Type 1} → statement M
 to-q14-spec =

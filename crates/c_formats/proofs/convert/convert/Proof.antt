@@ -1,4 +1,5 @@
--- `c_formats::convert::convert` meets its contract: what comes of the lengths, and then of the elements. Assumes nothing.
+-- `c_formats::convert::convert` meets its contract: what comes of the lengths, and then of the elements. Assumes
+-- nothing.
 use mathlib.Core.Path.{_≡_, refl, sym, ap, _∙_, subst}
 use Prim.Native.Nat.{ℕ, _/_, _<_}
 use borrow.Author.Needs.{needs}

@@ -1,9 +1,8 @@
 -- `c_formats::convert::put_all` meets its contract, format by format. Assumes nothing.
 use mathlib.Core.Path.{_≡_, sym, subst}
 use mathlib.Core.List.{List}
-use Prim.Native.Nat.{ℕ, _*_, _/_}
+use Prim.Native.Nat.{ℕ, _*_}
 use borrow.Author.Needs.{needs}
-use lib.ListN.{length}
 use Rattle.verdict.specs.declared.Verdict.{Verdict}
 use Rattle.c_formats.specs.declared.element.Format.{Format}
 use Rattle.c_formats.specs.Formats.{widthOf}
@@ -12,8 +11,8 @@ use Rattle.c_formats.proofs.convert.put_all.Statement.{statement}
 use Rattle.c_formats.proofs.convert.put_all.Tie as tie
 
 -- the room for the elements, and what came of them, by the format's other name
-room : {f g : Format} (out src : List ℕ) → f ≡ g → length out ≡ widthOf f * (length src / 8) → length out ≡ widthOf g * (length src / 8)
-room out src e h = subst (λ (f : Format). length out ≡ widthOf f * (length src / 8)) e h
+room : {f g : Format} {n : ℕ} (m : ℕ) → f ≡ g → n ≡ widthOf f * m → n ≡ widthOf g * m
+room {n = n} m e h = subst (λ (f : Format). n ≡ widthOf f * m) e h
 
 same : {f g : Format} {s before after : List ℕ} {r : Verdict} → f ≡ g → ConvertsWhole g s before r after → ConvertsWhole f s before r after
 same {f} {g} {s} {before} {after} {r} e h = subst (λ (z : Format). ConvertsWhole z s before r after) (sym e) h
@@ -22,25 +21,19 @@ enum-told : tie.Need-enum-told
 enum-told c = search needs
 
 put-elements-requires : tie.Need-put-elements-requires
-put-elements-requires c κs =
-    let s = c .before .before .before .before .before in
-    (s .pre .0, room (s .args .out .now) (s .args .src .now) (c .before .enum-told .given .1) (s .pre .1))
+put-elements-requires c κs = let s = c .before .before .before .before .before in (s .pre .0, room _ (c .before .enum-told .given .1) (s .pre .1))
 
 enum-told-2 : tie.Need-enum-told-2
 enum-told-2 c = search needs
 
 put-elements-requires-2 : tie.Need-put-elements-requires-2
-put-elements-requires-2 c κs =
-    let s = c .before .before .before .before .before in
-    (s .pre .0, room (s .args .out .now) (s .args .src .now) (c .before .enum-told2 .given .1) (s .pre .1))
+put-elements-requires-2 c κs = let s = c .before .before .before .before .before in (s .pre .0, room _ (c .before .enum-told2 .given .1) (s .pre .1))
 
 enum-told-3 : tie.Need-enum-told-3
 enum-told-3 c = search needs
 
 put-singles-requires : tie.Need-put-singles-requires
-put-singles-requires c κs =
-    let s = c .before .before .before .before .before in
-    (s .pre .0, room (s .args .out .now) (s .args .src .now) (c .before .enum-told3 .given .1) (s .pre .1))
+put-singles-requires c κs = let s = c .before .before .before .before .before in (s .pre .0, room _ (c .before .enum-told3 .given .1) (s .pre .1))
 
 same-length : tie.Need-same-length
 same-length c = search needs

@@ -1,4 +1,5 @@
--- `c_formats::convert::put_elements` meets its contract. The loop's invariant: the elements so far are taken, and their bytes stand at the front. Assumes nothing.
+-- `c_formats::convert::put_elements` meets its contract. The loop's invariant: the elements so far are taken, and their
+-- bytes stand at the front. Assumes nothing.
 use mathlib.Core.Path.{_≡_, sym, ap, _∙_}
 use Prim.Native.Nat.{ℕ, _*_, _-_, _≤_}
 use native.Mathlib.Nat.{mul-le-mul-left, mul-suc}

@@ -1,4 +1,5 @@
--- `c_formats::convert::put_singles` meets its contract. The loop's invariant is that of `put_elements`. Assumes nothing.
+-- `c_formats::convert::put_singles` meets its contract. The loop's invariant is that of `put_elements`. Assumes
+-- nothing.
 use mathlib.Core.Path.{_≡_, sym, ap, _∙_}
 use Prim.Native.Nat.{_*_, _-_, _≤_}
 use native.Mathlib.Omega.{arith}

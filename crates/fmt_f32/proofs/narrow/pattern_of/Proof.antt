@@ -1,4 +1,5 @@
--- `fmt_f32::pattern_of` meets its contract: the test tells a NaN, and any other f64 is the one with its pattern. Assumes nothing.
+-- `fmt_f32::pattern_of` meets its contract: the test tells a NaN, and any other f64 is the one with its pattern.
+-- Assumes nothing.
 use mathlib.Core.Path.{sym, ap, subst, _∙_}
 use borrow.Author.Needs.{needs}
 use lib.Dec.{T}

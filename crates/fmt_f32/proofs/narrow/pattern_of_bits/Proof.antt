@@ -1,4 +1,5 @@
--- `fmt_f32::pattern_of_bits` meets its contract: a NaN's pattern is told, and of a number the bit of the sign stays. Assumes nothing.
+-- `fmt_f32::pattern_of_bits` meets its contract: a NaN's pattern is told, and of a number the bit of the sign stays.
+-- Assumes nothing.
 use Prim.Native.Nat.{ℕ, _+_, _*_, _/_, _%_, _^_, _<_}
 use native.Mathlib.Omega.{arith}
 use borrow.Author.Needs.{needs}

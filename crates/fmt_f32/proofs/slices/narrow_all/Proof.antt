@@ -1,31 +1,27 @@
 -- `fmt_f32::narrow_all` meets its contract. The loop's invariant: the f32s so far stand at the front. Assumes nothing.
-use mathlib.Core.Path.{_≡_, ap, _∙_}
-use mathlib.Core.List.{List}
-use Prim.Native.Nat.{ℕ, _≤_, _-_}
+use mathlib.Core.Path.{refl, ap}
+use mathlib.Core.Bool.{true}
+use Prim.Native.Nat.{_≤_, _-_}
+use native.Mathlib.Nat.{mod-one}
 use native.Mathlib.Omega.{arith}
-use lib.ListN.{length, set, getD}
-use lib.Ieee.{Float, nan}
-use Rattle.laws.specs.Filled.{filled, fill-none, fill-more, fill-all, length-filled}
+use lib.ListN.{set}
+use lib.Ieee.{Float}
+use Rattle.verdict.specs.ConvertsLaws.{same-count, Reached, all-taken, at-first, same-size, one-more, ends}
 use Rattle.fmt_f32.specs.Single.{singleOf}
 use Rattle.fmt_f32.proofs.slices.narrow_all.Statement.{statement}
 use Rattle.fmt_f32.proofs.slices.narrow_all.Tie as tie
 
-abbrev item : List Float → ℕ → Float
-item src i = singleOf (getD src i nan)
-
 abbrev Inv-loop : tie.InvT-loop
-Inv-loop src dst₀ i₀ i-end dst i = (i ≤ i-end) × (dst ≡ filled i (item src) dst₀)
+Inv-loop src dst₀ i₀ i-end dst i = (i ≤ i-end) × Reached (λ x. true) singleOf src dst₀ i dst
 
 abbrev μ-loop : tie.MeasureT-loop
 μ-loop src dst₀ i₀ i-end dst i = i-end - i
 
 loop-holds : tie.Need-loop-holds Inv-loop μ-loop
-loop-holds c = (omega arith, fill-none _ _)
+loop-holds c = (omega arith, at-first (λ x. true) singleOf _ _)
 
 mul-narrow : tie.Need-mul-narrow Inv-loop μ-loop
-mul-narrow c =
-    let start = c .before .before .before .before in
-    record { fits = omega (arith, start .good .0 .1) }
+mul-narrow c = record { fits = omega (arith, c .before .before .before .before .good .0 .1) }
 
 shared-slice-read-narrow : tie.Need-shared-slice-read-narrow Inv-loop μ-loop
 shared-slice-read-narrow c = omega arith
@@ -34,15 +30,10 @@ narrow-requires : tie.Need-narrow-requires Inv-loop μ-loop
 narrow-requires c κs = tt
 
 mul-dst : tie.Need-mul-dst Inv-loop μ-loop
-mul-dst c =
-    let start = c .before .before .before .before .before .before in
-    record { fits = omega (arith, start .good .1 .0 .1) }
+mul-dst c = record { fits = omega (arith, c .before .before .before .before .before .before .good .1 .0 .1) }
 
 slice-write-dst : tie.Need-slice-write-dst Inv-loop μ-loop
-slice-write-dst c =
-    let at = c .before .before .before in
-    let e : length (at .loop .dst) ≡ length (at .before .before .before .args .dst .now) = ap length (at .loop .inv .1) ∙ length-filled _ _ _ (omega arith) in
-    omega arith
+slice-write-dst c = omega (arith, same-size (c .before .before .before .loop .inv .1) (omega arith))
 
 add-i : tie.Need-add-i Inv-loop μ-loop
 add-i c = omega arith
@@ -53,23 +44,16 @@ loop-less c = omega arith
 loop-again : tie.Need-loop-again Inv-loop μ-loop
 loop-again c =
     let at = c .before .before .before in
-    let a = at .before .before .before .args in
-    let f = item (a .src .now) in
-    let i = at .loop .i in
-    let stored = ap (λ (d : List Float). set d i (c .narrow .result)) (at .loop .inv .1) ∙ ap (λ (v : Float). set (filled i f (a .dst .now)) i v) (c .narrow .ensures) in
-    (omega arith, stored ∙ fill-more i f (a .dst .now) (omega arith))
+    let stored = ap (λ (v : Float). set (at .loop .dst) (at .loop .i) v) (c .narrow .ensures) in
+    (omega arith, one-more (at .loop .inv .1) (omega arith) (omega arith) refl stored)
 
 same-length : tie.Need-same-length Inv-loop μ-loop
-same-length c = ap length (c .before .loop .inv .1) ∙ length-filled _ _ _ (omega arith)
+same-length c = same-size (c .before .loop .inv .1) (omega arith)
 
 returns : tie.Need-returns Inv-loop μ-loop
 returns c =
     let at = c .before in
-    let a = at .before .before .before .args in
-    let n = length (a .src .now) in
-    let f = item (a .src .now) in
-    let e : at .loop .i ≡ n = omega arith in
-    at .loop .inv .1 ∙ ap (λ (j : ℕ). filled j f (a .dst .now)) e ∙ fill-all n f (a .dst .now) (omega arith)
+    ends (at .loop .inv .1) (same-count 1 _ _ (mod-one _) (omega arith)) (all-taken (at .loop .inv .1 .taken) (omega arith))
 
 pub narrow-all-spec : {M : Type 1} → statement M
 narrow-all-spec =

@@ -1,43 +1,35 @@
--- `fmt_q15::q15::to_q15` meets its contract. The loop's invariant: the elements so far are taken, and their numbers stand at the front. Assumes nothing.
-use mathlib.Core.Path.{_≡_, refl, sym, ap, _∙_, subst}
-use mathlib.Core.List.{List}
-use Prim.Native.Nat.{_≤_, _+_, _-_, _^_, _<_}
+-- `fmt_q15::q15::to_q15` meets its contract. The loop's invariant: the elements so far are taken, and their numbers
+-- stand at the front. Assumes nothing.
+use mathlib.Core.Path.{sym, ap, _∙_}
+use Prim.Native.Nat.{_≤_, _-_}
+use native.Mathlib.Nat.{mod-one}
 use native.Mathlib.Omega.{arith}
 use mir.Syntax.{w16}
-use mir.Val.{toZ, ofZ}
 use mir.ValLaws.{toZ-ofZ}
-use borrow.Author.Tests.{eq-eqb, ne-eqb}
 use borrow.Author.Needs.{needs}
-use lib.Signed.{mag}
 use lib.IntN.{ℤ}
-use lib.ListN.{length, set, drop, getD}
+use lib.ListN.{set, getD}
 use lib.Ieee.{nan}
-use Rattle.laws.specs.Filled.{filled, fill-none, fill-more, length-filled}
-use Rattle.laws.specs.Prefix.{firstBad, bad-start, bad-more, bad-here, bad-end}
-use Rattle.fmt_q15.specs.Q15.{takes, itemOf, toQ15Of}
-use Rattle.fmt_q15.specs.Q15Laws.{q15-small, tap-number, tap-refused}
+use Rattle.verdict.specs.ConvertsLaws.{other-count, same-count, Reached, stopped, all-taken, at-first, lengths-refused, same-size, one-more, ends}
+use Rattle.fmt_q15.specs.Q15.{takes, q15Of}
+use Rattle.fmt_q15.specs.Q15Laws.{tap-number, tap-refused}
 use Rattle.fmt_q15.proofs.q15.to_q15.Statement.{statement}
 use Rattle.fmt_q15.proofs.q15.to_q15.Tie as tie
 
 abbrev Inv-loop : tie.InvT-loop
-Inv-loop src dst₀ n i₀ dst i = (i ≤ n) × (firstBad takes src ≡ i + firstBad takes (drop i src)) × (dst ≡ filled i (itemOf src) dst₀)
+Inv-loop src dst₀ n i₀ dst i = (i ≤ n) × Reached takes q15Of src dst₀ i dst
 
 abbrev μ-loop : tie.MeasureT-loop
 μ-loop src dst₀ n i₀ dst i = n - i
 
 returns : tie.Need-returns Inv-loop μ-loop
-returns c =
-    let a = c .before .before .args in
-    let e = ne-eqb (length (a .src .now)) (length (a .dst .now)) (c .if1 .taken) in
-    record { answer = rw e; buffer = rw e }
+returns c = lengths-refused (other-count 1 _ _ (mod-one _) (c .if1 .taken))
 
 loop-holds : tie.Need-loop-holds Inv-loop μ-loop
-loop-holds c = (omega arith, bad-start takes _, fill-none _ _)
+loop-holds c = (omega arith, at-first takes q15Of _ _)
 
 mul-q15-tap : tie.Need-mul-q15-tap Inv-loop μ-loop
-mul-q15-tap c =
-    let start = c .before .before .before .before in
-    record { fits = omega (arith, start .good .0 .1) }
+mul-q15-tap c = record { fits = omega (arith, c .before .before .before .before .good .0 .1) }
 
 shared-slice-read-q15-tap : tie.Need-shared-slice-read-q15-tap Inv-loop μ-loop
 shared-slice-read-q15-tap c = omega arith
@@ -49,35 +41,25 @@ enum-known-coded : tie.Need-enum-known-coded Inv-loop μ-loop
 enum-known-coded c = search needs
 
 mul-q : tie.Need-mul-q Inv-loop μ-loop
-mul-q c =
-    let start = c .before .before .before .before .before .before .before .before .before in
-    record { fits = omega (arith, start .good .1 .0 .1) }
+mul-q c = record { fits = omega (arith, c .before .before .before .before .before .before .before .before .before .good .1 .0 .1) }
 
 slice-set-from-q : tie.Need-slice-set-from-q Inv-loop μ-loop
-slice-set-from-q c =
-    let at = c .before .before .before .before .before .before in
-    let e : length (at .loop .dst) ≡ length (at .before .before .before .args .dst .now) = ap length (at .loop .inv .2) ∙ length-filled _ _ _ (omega arith) in
-    omega arith
+slice-set-from-q c = omega (arith, same-size (c .before .before .before .before .before .before .loop .inv .1) (omega arith))
 
 enum-known-coded-2 : tie.Need-enum-known-coded-2 Inv-loop μ-loop
 enum-known-coded-2 c = search needs
 
 same-length : tie.Need-same-length Inv-loop μ-loop
-same-length c = ap length (c .before .before .before .before .before .before .loop .inv .2) ∙ length-filled _ _ _ (omega arith)
+same-length c = same-size (c .before .before .before .before .before .before .loop .inv .1) (omega arith)
 
 returns-2 : tie.Need-returns-2 Inv-loop μ-loop
-unfolding toQ15Of
 returns-2 c =
     let k = c .before in
     let at = k .before .before .before .before .before in
-    let a = at .before .before .before .args in
-    let s = a .src .now in
+    let s = at .before .before .before .args .src .now in
     let i = at .loop .i in
     let t = tap-refused i (getD s i nan) (k .coded2 .given .0 .0) (sym (k .before .before .q15-tap .ensures) ∙ k .coded2 .given .1) in
-    let here : firstBad takes s ≡ i = omega (arith, bad-here takes s i nan (omega arith) (t .0), at .loop .inv .1) in
-    let same = eq-eqb (length s) (length (a .dst .now)) (omega arith) in
-    let part = ne-eqb i (length s) (λ e. omega arith) in
-    record { answer = rw (same, here, part, t .1); buffer = at .loop .inv .2 ∙ sym (rw (same, here)) }
+    ends (at .loop .inv .1) (same-count 1 _ _ (mod-one _) (omega arith)) (stopped (at .loop .inv .1 .taken) (omega arith) (t .0) (t .1))
 
 add-i : tie.Need-add-i Inv-loop μ-loop
 add-i c = omega arith
@@ -89,32 +71,20 @@ loop-again : tie.Need-loop-again Inv-loop μ-loop
 loop-again c =
     let k = c .before in
     let at = k .before .before .before .before .before in
-    let a = at .before .before .before .args in
-    let s = a .src .now in
+    let s = at .before .before .before .args .src .now in
     let i = at .loop .i in
     let q = k .coded .given .0 .0 in
     let t = tap-number i (getD s i nan) q (sym (k .before .before .q15-tap .ensures) ∙ k .coded .given .1) in
-    let more = bad-more takes s i nan (omega arith) (t .0) in
-    let stored = toZ-ofZ w16 q (record { sfits = subst (λ (z : ℤ). mag z < 2 ^ 15) (t .1) (q15-small (getD s i nan)) }) in
-    let set-at = ap (λ (d : List ℤ). set d i (toZ w16 (ofZ w16 q))) (at .loop .inv .2) in
-    let set-to = ap (λ (z : ℤ). set (filled i (itemOf s) (a .dst .now)) i z) (stored ∙ sym (t .1)) in
-    (omega arith, omega (arith, more, at .loop .inv .1), set-at ∙ set-to ∙ fill-more i (itemOf s) (a .dst .now) (omega arith))
+    let stored = toZ-ofZ w16 q (record { sfits = c .known-told .given .0 .1 }) in
+    (omega arith, one-more (at .loop .inv .1) (omega arith) (omega arith) (t .0) (ap (λ (z : ℤ). set (at .loop .dst) i z) (stored ∙ sym (t .1))))
 
 same-length-2 : tie.Need-same-length-2 Inv-loop μ-loop
-same-length-2 c = ap length (c .before .loop .inv .2) ∙ length-filled _ _ _ (omega arith)
+same-length-2 c = same-size (c .before .loop .inv .1) (omega arith)
 
 returns-3 : tie.Need-returns-3 Inv-loop μ-loop
-unfolding toQ15Of
 returns-3 c =
     let at = c .before in
-    let a = at .before .before .before .args in
-    let s = a .src .now in
-    let i = at .loop .i in
-    let all : firstBad takes s ≡ length s = omega (arith, bad-end takes s i (omega arith), at .loop .inv .1) in
-    let end : i ≡ length s = omega arith in
-    let same = eq-eqb (length s) (length (a .dst .now)) (omega arith) in
-    let full = eq-eqb (length s) (length s) refl in
-    record { answer = rw (same, all, full); buffer = at .loop .inv .2 ∙ sym (rw (same, all, end)) }
+    ends (at .loop .inv .1) (same-count 1 _ _ (mod-one _) (omega arith)) (all-taken (at .loop .inv .1 .taken) (omega arith))
 
 pub to-q15-spec : {M : Type 1} → statement M
 to-q15-spec =
