@@ -1,5 +1,2 @@
 pub mod Single
 pub mod Sized
-pub mod Narrowing
-pub mod SizedLaws
-pub mod SingleLaws

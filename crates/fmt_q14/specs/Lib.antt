@@ -1,2 +1,1 @@
 pub mod Q14
-pub mod Q14Laws

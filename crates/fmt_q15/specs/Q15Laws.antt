@@ -22,7 +22,8 @@ use Rattle.verdict.specs.declared.Refusal.{Refusal}
 use Rattle.fmt_q15.specs.declared.q15.Coded.{Coded}
 use Rattle.fmt_q15.specs.declared.q15.Coded.the-variants as Coded
 use Rattle.fmt_q15.specs.Q15.{moved, saturated, in16, codeIn, q15Of, takes, outside, q15TapOf}
-use Rattle.fmt_q15.specs.WholeFloats.{most, least, rounded, by-sign, some, reaches, turned, Cut, cut-some, cut-none, floor-as}
+use Rattle.math_round.specs.FloorAs.{rounded, floor-as}
+use Rattle.fmt_q15.specs.WholeFloats.{most, least, by-sign, some, reaches, turned, Cut, cut-some, cut-none}
 
 -- ---- an end of 16 bits is never reached by what has the other sign
 unlike-ends : (a b : ℕ) → (a ≡ b → a ≡ 0 → ⊥) → (eqb a b && (false || eqb a 0)) ≡ false

@@ -1,12 +1,12 @@
 -- A rounded whole number: its sign, its order against a small one, and its cast to 16 bits. Assumes nothing.
 use mathlib.Core.Path.{_≡_, refl, sym, ap, _∙_, subst}
 use mathlib.Core.Bool.{Bool, true, false, _&&_, _||_, Bool·beq, cond, true≢false}
-use Prim.Native.Nat.{ℕ, zero, suc, _+_, _*_, _/_, _^_, _≤_, _<_}
+use Prim.Native.Nat.{ℕ, zero, suc, _+_, _*_, _^_, _≤_, _<_}
 use native.Mathlib.Nat.{lt-of-le-of-lt, le-trans, le-of-lt, le-of-eq, lt-irrefl, lt-of-lt-of-le, zero-lt-suc, zero-mul, mul-one, mul-pos, mul-le-mul-right, le-of-mul-le-mul-right}
 use native.Mathlib.Omega.{arith}
 use borrow.Author.Tests.{leb-true, leb-false, eqb-true, eqb-false, eq-eqb, ne-eqb, lt-ltb}
 use lib.Dec.{T, leb, ltb, eqb, le→leb, lt→ltb, lit≤}
-use lib.IntN.{ℤ, pos, negℤ}
+use lib.IntN.{ℤ, pos}
 use lib.Ieee.{Float, nan, inf, fin, Format, binary64, prec, emax, low, up, down, odd, units, round, neg, le, eq, ofInt, toSigned, inSigned, inFloat}
 use lib.Ieee.Bits.{is-true}
 use lib.Ieee.Fits.{down-pos, round-is}
@@ -14,12 +14,11 @@ use lib.Ieee.Exact.{HasValue}
 use lib.Ieee.Back.{round-whole, positive-back, negative-back}
 use lib.Ieee.Order.{round-mono}
 use Rattle.laws.specs.AtMost.{AtMost, of-le}
-use Rattle.laws.specs.Floor.{floorZ, upward}
 use Rattle.laws.specs.Tests.{holds, both}
 use Rattle.laws.specs.Units.{nought}
 use Rattle.laws.specs.WholeValues.{signed}
-use Rattle.math_round.specs.Whole.{asFloat, floorOf}
-use Rattle.math_round.specs.Laws.{abs-neg, neg-round}
+use Rattle.math_round.specs.FloorAs.{rounded}
+use Rattle.math_round.specs.Laws.{neg-round}
 use Rattle.fmt_q15.specs.Q15.{in16}
 
 -- ---- the ends of 16 bits, 32767 and −32768, as the code tests them
@@ -28,10 +27,6 @@ most = fin false 32767 (pos 0)
 
 abbrev pub least : Float
 least = fin true 1 (pos 15)
-
--- a whole number of sign s, rounded: what a floor is
-abbrev pub rounded : Bool → ℕ → Float
-rounded s n = round binary64 s n 1
 
 -- ---- what is rounded keeps its sign
 module _ (P : Float → Type 0) (s : Bool) (large : P (inf s)) (size : (m : ℕ) (e : ℤ) → P (fin s m e)) where
@@ -190,9 +185,3 @@ cut-none s n h c = sym (ap (λ (k : ℕ). signed s k) (no-size (rounded s n) s n
     nothing : (s : Bool) → signed s 0 ≡ pos 0
     nothing true = refl
     nothing false = refl
-
--- ---- what holds of every rounded whole number holds of a value's floor
-pub floor-as : (P : Float → ℤ → Type 0) → ((s : Bool) (n : ℕ) → P (rounded s n) (signed s n)) → (s : Bool) (m : ℕ) (e : ℤ) → P (floorOf (fin s m e)) (floorZ (fin s m e))
-unfolding floorOf asFloat floorZ
-floor-as P p false m e = p false (m * up e / down e)
-floor-as P p true m e = let n = upward (m * up e) (down e) in subst (λ (k : ℕ). P (rounded true k) (negℤ (pos n))) (sym (abs-neg n)) (p true n)

@@ -3,3 +3,4 @@ pub mod Laws
 pub mod OneFloor
 pub mod Near
 pub mod NearPaths
+pub mod FloorAs

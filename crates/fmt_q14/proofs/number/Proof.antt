@@ -6,7 +6,7 @@ use mir.Syntax.{w16}
 use mir.ValLaws.{toZ-ofZ}
 use Rattle.laws.specs.Cases.{either}
 use Rattle.fmt_q14.specs.Q14.{moved}
-use Rattle.fmt_q14.specs.Q14Laws.{floor-nought, floor-cut, code-number, code-low, code-high}
+use Rattle.fmt_q14.proofs.Q14Laws.{floor-nought, floor-cut, code-number, code-low, code-high}
 use Rattle.fmt_q14.proofs.number.Statement.{statement}
 use Rattle.fmt_q14.proofs.number.Tie as tie
 

@@ -11,7 +11,7 @@ use lib.ListN.{set, getD}
 use lib.Ieee.{nan}
 use Rattle.verdict.specs.ConvertsLaws.{part-group, other-count, same-count, Reached, stopped, all-taken, at-first, lengths-refused, same-size, one-more, ends}
 use Rattle.fmt_q14.specs.Q14.{takes, q14Of}
-use Rattle.fmt_q14.specs.Q14Laws.{q14-number, q14-refused}
+use Rattle.fmt_q14.proofs.Q14Laws.{q14-number, q14-refused}
 use Rattle.fmt_q14.proofs.to_q14.Statement.{statement}
 use Rattle.fmt_q14.proofs.to_q14.Tie as tie
 

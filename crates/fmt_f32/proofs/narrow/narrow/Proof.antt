@@ -5,7 +5,7 @@ use borrow.Author.Needs.{needs}
 use lib.Ieee.{binary32, div, ofBits}
 use Rattle.laws.specs.Tests.{fails, ne-self, is-nan}
 use Rattle.fmt_f32.specs.Single.{roundTo}
-use Rattle.fmt_f32.specs.SingleLaws.{bits-back, bits-number}
+use Rattle.fmt_f32.proofs.SingleLaws.{bits-back, bits-number}
 use Rattle.fmt_f32.proofs.narrow.narrow.Statement.{statement}
 use Rattle.fmt_f32.proofs.narrow.narrow.Tie as tie
 

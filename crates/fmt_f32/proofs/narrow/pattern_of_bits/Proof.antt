@@ -3,8 +3,8 @@
 use Prim.Native.Nat.{ℕ, _+_, _*_, _/_, _%_, _^_, _<_}
 use native.Mathlib.Omega.{arith}
 use borrow.Author.Needs.{needs}
-use Rattle.fmt_f32.specs.SizedLaws.{normal, infinite}
-use Rattle.fmt_f32.specs.SingleLaws.{narrowed-lt, of-nan, joined}
+use Rattle.fmt_f32.proofs.SizedLaws.{normal, infinite}
+use Rattle.fmt_f32.proofs.SingleLaws.{narrowed-lt, of-nan, joined}
 use Rattle.fmt_f32.proofs.narrow.pattern_of_bits.Statement.{statement}
 use Rattle.fmt_f32.proofs.narrow.pattern_of_bits.Tie as tie
 

@@ -6,7 +6,7 @@ use borrow.Author.Needs.{needs}
 use lib.Pow.{pow-pos, pow-mono}
 use lib.Ieee.Nearest.{closest}
 use Rattle.fmt_f32.specs.Sized.{Narrowed}
-use Rattle.fmt_f32.specs.SizedLaws.{field, digits, one-shifted, subnormal, none}
+use Rattle.fmt_f32.proofs.SizedLaws.{field, digits, one-shifted, subnormal, none}
 use Rattle.fmt_f32.proofs.narrow.small_pattern.Statement.{statement}
 use Rattle.fmt_f32.proofs.narrow.small_pattern.Tie as tie
 

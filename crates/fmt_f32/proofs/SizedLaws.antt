@@ -17,7 +17,7 @@ use Rattle.laws.specs.Closest.{closest-added, closest-even}
 use Rattle.laws.specs.RoundedBits.{capped}
 use Rattle.fmt_f32.specs.Single.{singleOf}
 use Rattle.fmt_f32.specs.Sized.{signed, Narrowed}
-use Rattle.fmt_f32.specs.Narrowing.{lead-bits, none-bits, inf-bits}
+use Rattle.fmt_f32.proofs.Narrowing.{lead-bits, none-bits, inf-bits}
 
 -- 1 shifted left by j, in 64 bits
 pub one-shifted : (j : ℕ) → j ≤ 63 → 1 * 2 ^ j % 2 ^ 64 ≡ 2 ^ j

@@ -19,7 +19,8 @@ use Rattle.fmt_q15.specs.declared.q15.Coded.{Coded}
 use Rattle.fmt_q15.specs.declared.q15.Coded.the-variants as Coded
 use Rattle.fmt_q15.specs.Q15.{in16}
 use Rattle.fmt_q14.specs.Q14.{moved, q14Of, takes, outside, q14TapOf}
-use Rattle.fmt_q15.specs.WholeFloats.{most, least, rounded, signs-order, stays, turned, Cut, cut-some, cut-none, floor-as}
+use Rattle.math_round.specs.FloorAs.{rounded, floor-as}
+use Rattle.fmt_q15.specs.WholeFloats.{most, least, signs-order, stays, turned, Cut, cut-some, cut-none}
 use Rattle.fmt_q15.specs.Q15Laws.{number-tells, refusal-tells}
 
 -- ---- both tests of a whole number
