@@ -11,8 +11,6 @@ use verdict::Refusal;
 use verdict::Verdict;
 ghost use mathlib.Core.Path.{_≡_};
 ghost use lib.ListN.{length};
-ghost use Rattle.verdict.specs.Outcome.{Fills};
-ghost use Rattle.fir_lowpass.specs.Lowpass.{outcomeOf};
 ghost use Rattle.fir_lowpass.specs.Cached.{PreparesLowpass};
 ghost use Rattle.fir_channelizer.specs.Channelizer.{channelsTaken, branchTaken, stopTaken, attenuationTaken, edgesOf, countTaken, channelizerTapsOf, branchOf, channelizerLowpassOf, fittedOf};
 
@@ -217,30 +215,4 @@ pub fn fitted(
         }
         Designed::Refused(why) => refused(why),
     }
-}
-
-// Fills the buffer, which must have channels · branch elements; refused as `fitted`, with the buffer as it came.
-// Example: 16 channels of 8 taps, 0.5, 1, 60 dB: 128 taps.
-pub fn channelizer_prototype(
-    channels: u64,
-    branch: u64,
-    passband: f64,
-    stopband: f64,
-    attenuation: f64,
-    taps: &mut [f64],
-) -> Verdict
-    ensures { λ r. ⌜ Fills (outcomeOf (fittedOf (channelizerLowpassOf channels branch passband stopband attenuation) (length (now (taps .entry))))) (now (taps .entry)) r (now (taps .exit)) ⌝ }
-{
-    let mut none = [0.0f64; 1];
-    let len = taps.len() as u64;
-    let p = fitted(
-        channels,
-        branch,
-        passband,
-        stopband,
-        attenuation,
-        len,
-        &mut none,
-    );
-    fir_lowpass::lowpass::finish(p, &mut *taps)
 }

@@ -1,4 +1,4 @@
-// The windowed-sinc low-pass: judged first, then its taps one at a time or into a buffer.
+// The windowed-sinc low-pass: judged first, then its taps one at a time.
 use fir_sinc::sum::total;
 use fir_sinc::tap::raw_tap;
 use fir_sinc::window::Window;
@@ -10,12 +10,9 @@ use verdict::BAD_FREQUENCY;
 use verdict::BAD_RATE;
 use verdict::BAD_SUM;
 use verdict::Refusal;
-use verdict::Verdict;
 ghost use mathlib.Core.Path.{_≡_};
-ghost use lib.ListN.{length};
-ghost use Rattle.fir_lowpass.specs.Lowpass.{inside, countTaken, betaTaken, usable, lowpassOf, tapWith, tapOf, tapsOf, outcomeOf};
-ghost use Rattle.verdict.specs.Outcome.{Fills};
-ghost use Rattle.fir_lowpass.specs.Cached.{Caches, Normed, PreparesLowpass};
+ghost use Rattle.fir_lowpass.specs.Lowpass.{inside, countTaken, betaTaken, usable, lowpassOf, tapWith, tapOf};
+ghost use Rattle.fir_lowpass.specs.Cached.{Caches, PreparesLowpass};
 
 // A design: how many taps, the cutoff as a fraction of the rate, the window, and the sum that the taps are divided by.
 pub struct Lowpass {
@@ -172,38 +169,4 @@ impl Lowpass {
         let w = self.window;
         tap_with(self, norm(w), i)
     }
-}
-
-// Fills the buffer with a design's taps, as many as it has elements.
-fn fill(lp: Lowpass, i0: f64, taps: &mut [f64])
-    ensures { λ _. ⌜ now (taps .exit) ≡ tapsOf lp i0 (length (now (taps .entry))) ⌝ }
-{
-    let n = taps.len();
-    for i in 0..n {
-        taps[i] = tap_with(lp, i0, i as u64);
-    }
-}
-
-// Fills the buffer by a design that comes with the series at its beta, or leaves it.
-pub fn finish(p: Prepared, taps: &mut [f64]) -> Verdict
-    ensures { λ r. ⌜ (Normed p → Fills (outcomeOf (p .designed)) (now (taps .entry)) r (now (taps .exit))) ⌝ }
-{
-    let designed = p.designed;
-    match designed {
-        Designed::Ready(lp) => {
-            fill(lp, p.i0, &mut *taps);
-            Verdict::Done
-        }
-        Designed::Refused(why) => Verdict::Refused(why),
-    }
-}
-
-// The low-pass of as many taps as the buffer has elements; refused as `prepare`, with the buffer as it came. Example:
-// Hann, cutoff 0.25 at rate 1: one tap is 1, two are refused with 10.
-pub fn firwin_lowpass(cutoff: f64, rate: f64, window: Window, taps: &mut [f64]) -> Verdict
-    ensures { λ r. ⌜ Fills (outcomeOf (lowpassOf cutoff rate window (length (now (taps .entry))))) (now (taps .entry)) r (now (taps .exit)) ⌝ }
-{
-    let mut none = [0.0f64; 1];
-    let p = prepare(cutoff, rate, window, taps.len() as u64, &mut none);
-    finish(p, &mut *taps)
 }

@@ -4,7 +4,6 @@ use fir_length::order::kaiserord;
 use fir_lowpass::lowpass::Designed;
 use fir_lowpass::lowpass::Lowpass;
 use fir_lowpass::lowpass::Prepared;
-use fir_lowpass::lowpass::finish;
 use fir_lowpass::lowpass::prepare;
 use fir_sinc::window::Window;
 use verdict::BAD_FREQUENCY;
@@ -12,11 +11,7 @@ use verdict::BAD_RATE;
 use verdict::BAD_TRANSITION;
 use verdict::Length;
 use verdict::Refusal;
-use verdict::Verdict;
 ghost use mathlib.Core.Path.{_≡_};
-ghost use lib.ListN.{length};
-ghost use Rattle.verdict.specs.Outcome.{Fills};
-ghost use Rattle.fir_lowpass.specs.Lowpass.{outcomeOf};
 ghost use Rattle.fir_lowpass.specs.Cached.{PreparesLowpass};
 ghost use Rattle.fir_spec.specs.Spec.{cutoffTaken, cappedOf, specOrderOf, numTapsOf, specLowpassOf, specDesignOf};
 
@@ -118,14 +113,5 @@ impl DesignSpec {
             Order::Taps(n, beta) => Lowpass::new(self.cutoff, rate, Window::Kaiser(beta), n),
             Order::Refused(why) => Designed::Refused(why),
         }
-    }
-
-    // Fills the buffer, whose length must be that of `num_taps`; refused as `spec_prepare`, with the buffer as it came.
-    pub fn design(self, rate: f64, cap: u64, taps: &mut [f64]) -> Verdict
-        ensures { λ r. ⌜ Fills (outcomeOf (specDesignOf self rate cap (length (now (taps .entry))))) (now (taps .entry)) r (now (taps .exit)) ⌝ }
-    {
-        let mut none = [0.0f64; 1];
-        let p = spec_prepare(self, rate, cap, taps.len() as u64, &mut none);
-        finish(p, &mut *taps)
     }
 }

@@ -1,8 +1,8 @@
--- `fir_channelizer::channelizer_prototype` meets its contract. Assumes nothing.
+-- `ticket_slices::prototype::channelizer_prototype` meets its contract. Assumes nothing.
 use borrow.Author.Needs.{needs}
 use Rattle.fir_lowpass.specs.LowpassLaws.{fills-as}
-use Rattle.fir_channelizer.proofs.channelizer_prototype.Statement.{statement}
-use Rattle.fir_channelizer.proofs.channelizer_prototype.Tie as tie
+use Rattle.ticket_slices.proofs.prototype.channelizer_prototype.Statement.{statement}
+use Rattle.ticket_slices.proofs.prototype.channelizer_prototype.Tie as tie
 
 slice-aggregate-fitted : tie.Need-slice-aggregate-fitted
 slice-aggregate-fitted c = search needs

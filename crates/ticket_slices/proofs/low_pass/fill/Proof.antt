@@ -1,4 +1,4 @@
--- `fir_lowpass::lowpass::fill` meets its contract. The loop's invariant: the taps so far stand at the front. Assumes
+-- `ticket_slices::low_pass::fill` meets its contract. The loop's invariant: the taps so far stand at the front. Assumes
 -- nothing.
 use mathlib.Core.Path.{_≡_, ap, _∙_}
 use Prim.Native.Nat.{_≤_, _-_}
@@ -6,9 +6,9 @@ use native.Mathlib.Omega.{arith}
 use borrow.Author.Needs.{scaled-fits}
 use lib.ListN.{length}
 use Rattle.laws.specs.Filled.{filled, fill-none, fill-more, fill-all, length-filled}
 use Rattle.fir_lowpass.specs.Lowpass.{tapWith, tapsOf}
-use Rattle.fir_lowpass.proofs.lowpass.fill.Statement.{statement}
-use Rattle.fir_lowpass.proofs.lowpass.fill.Tie as tie
+use Rattle.ticket_slices.proofs.low_pass.fill.Statement.{statement}
+use Rattle.ticket_slices.proofs.low_pass.fill.Tie as tie
 
 abbrev Inv-loop : tie.InvT-loop
 Inv-loop lp i0 taps₀ n i₀ taps i = (i ≤ length taps₀) × (taps ≡ filled i (tapWith lp i0) taps₀)

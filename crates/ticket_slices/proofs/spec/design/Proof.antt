@@ -1,9 +1,9 @@
--- `fir_spec::DesignSpec::design` meets its contract. Assumes nothing.
+-- `ticket_slices::spec::design` meets its contract. Assumes nothing.
 use mathlib.Core.Path.{refl}
 use Rattle.fir_lowpass.specs.LowpassLaws.{fills-as}
 use borrow.Author.Needs.{needs}
-use Rattle.fir_spec.proofs.DesignSpec.design.Statement.{statement}
-use Rattle.fir_spec.proofs.DesignSpec.design.Tie as tie
+use Rattle.ticket_slices.proofs.spec.design.Statement.{statement}
+use Rattle.ticket_slices.proofs.spec.design.Tie as tie
 
 slice-aggregate-spec-prepare : tie.Need-slice-aggregate-spec-prepare
 slice-aggregate-spec-prepare c = refl

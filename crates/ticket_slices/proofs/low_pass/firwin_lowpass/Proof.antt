@@ -1,9 +1,9 @@
--- `fir_lowpass::lowpass::firwin_lowpass` meets its contract. Assumes nothing.
+-- `ticket_slices::low_pass::firwin_lowpass` meets its contract. Assumes nothing.
 use mathlib.Core.Path.{refl}
 use Rattle.fir_lowpass.specs.LowpassLaws.{fills-as}
 use borrow.Author.Needs.{needs}
-use Rattle.fir_lowpass.proofs.lowpass.firwin_lowpass.Statement.{statement}
-use Rattle.fir_lowpass.proofs.lowpass.firwin_lowpass.Tie as tie
+use Rattle.ticket_slices.proofs.low_pass.firwin_lowpass.Statement.{statement}
+use Rattle.ticket_slices.proofs.low_pass.firwin_lowpass.Tie as tie
 
 slice-aggregate-prepare : tie.Need-slice-aggregate-prepare
 slice-aggregate-prepare c = refl

@@ -1,9 +1,9 @@
--- `fir_lowpass::lowpass::finish` meets its contract: a design fills the buffer, a refusal leaves it. Assumes nothing.
+-- `ticket_slices::low_pass::finish` meets its contract: a design fills the buffer, a refusal leaves it. Assumes nothing.
 use denote.Ref.{now}
 use Rattle.fir_lowpass.specs.LowpassLaws.{fills, leaves}
 use borrow.Author.Needs.{needs}
-use Rattle.fir_lowpass.proofs.lowpass.finish.Statement.{statement}
-use Rattle.fir_lowpass.proofs.lowpass.finish.Tie as tie
+use Rattle.ticket_slices.proofs.low_pass.finish.Statement.{statement}
+use Rattle.ticket_slices.proofs.low_pass.finish.Tie as tie
 
 enum-known-designed : tie.Need-enum-known-designed
 enum-known-designed c = search needs
