@@ -3,8 +3,8 @@
  * Link with libpeldozkar.a, which `make lib` writes; it is for x86-64 today. Each function is proved to give the value
  * that is said here for every argument, NaN, infinities, zeros of both signs, subnormal numbers and impossible counts
  * included; it allocates nothing, keeps nothing, calls nothing but memset and always returns. On the stack pel_lowpass,
- * pel_spec_design, pel_halfband, pel_gaussian and pel_channelizer_prototype take under 9 KB, the others under 1 KB;
- * docs/FUNCTIONS.md has the bytes of each.
+ * pel_spec_design, pel_halfband, pel_gaussian and pel_channelizer_prototype take 9,120 bytes at most, the others under
+ * 1,000; docs/FUNCTIONS.md has the bytes of each.
  *
  * The bits are the same on every reader: each operation is rounded once to a double, to the nearest, ties to even. A
  * NaN's sign and payload are free.

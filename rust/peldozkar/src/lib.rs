@@ -36,7 +36,7 @@
 //! tap raises "invalid".
 //!
 //! On the stack the exports behind [`lowpass`], [`Spec::design`], [`halfband`], [`gaussian`] and
-//! [`channelizer_prototype`] take under 9 KB, the others under 1 KB; the repository's `docs/FUNCTIONS.md` has the bytes
+//! [`channelizer_prototype`] take 9,120 bytes at most, the others under 1,000; the repository's `docs/FUNCTIONS.md` has the bytes
 //! of each.
 //!
 //! # What is proved, and what isn't
