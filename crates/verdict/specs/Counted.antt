@@ -20,8 +20,7 @@ where-equal of n x y a c p q = go (eqb a c) (eqb-true a c)
     go false e = q
 
 -- an answer that stands where its count is that of a buffer: where it is the design d, it was so without the buffer,
--- and d
--- has as many taps as that has elements
+-- and d has as many taps as that has elements
 pub fitted : {D R : Type 0} (ready : D → R) (size : D → ℕ) (refusal : R) (len : ℕ) (g d : D) → ((x y : D) → ready x ≡ ready y → x ≡ y) → (refusal ≡ ready d → ⊥) → cond (eqb (size g) len) (ready g) refusal ≡ ready d → (ready g ≡ ready d) × (size d ≡ len)
 fitted ready size refusal len g d same never e = go (eqb (size g) len) (eqb-true (size g) len) e
   where

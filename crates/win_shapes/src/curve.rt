@@ -1,6 +1,5 @@
 // The curve of a window, and the steps to a window that are the same for all of a curve. They stand apart for a loop
-// that
-// works out the arguments of the next elements before the values of these.
+// that works out the arguments of the next elements before the values of these.
 use super::kaiser;
 use math_bessel::Pair;
 use math_numbers::PI;

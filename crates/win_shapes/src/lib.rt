@@ -1,6 +1,5 @@
 // The windows as formulas, each once: Hann, Hamming, Blackman, Blackman-Harris and Kaiser. Low-passes and sampled
-// windows
-// both take them from here. No public function has a `requires`.
+// windows both take them from here. No public function has a `requires`.
 pub mod cosines;
 pub mod curve;
 pub mod kaiser;

@@ -1,6 +1,5 @@
 -- A buffer that is written from the front, one number of w bytes a turn: what stands in it after i turns, over any
--- width
--- and any numbers, and under a condition where what is written is right only under one. Assumes nothing.
+-- width and any numbers, and under a condition where what is written is right only under one. Assumes nothing.
 use mathlib.Core.Path.{_≡_, refl, ap, _∙_}
 use mathlib.Core.Bool.{Bool, true, false, cond}
 use mathlib.Core.List.{List}

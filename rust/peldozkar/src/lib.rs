@@ -36,8 +36,8 @@
 //! tap raises "invalid".
 //!
 //! On the stack the exports behind [`lowpass`], [`Spec::design`], [`halfband`], [`gaussian`] and
-//! [`channelizer_prototype`] take 9,120 bytes at most, the others under 1,000; the repository's `docs/FUNCTIONS.md` has the bytes
-//! of each.
+//! [`channelizer_prototype`] take 9,120 bytes at most, the others under 1,000; the repository's `docs/FUNCTIONS.md` has
+//! the bytes of each.
 //!
 //! # What is proved, and what isn't
 //!
