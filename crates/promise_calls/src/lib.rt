@@ -1,0 +1,8 @@
+// The exports called as they stand, one function each, whose contract is what the user demands of that very call: a
+// promise that no longer follows from an export's own contract is refused here.
+pub mod coefficients;
+pub mod conversions;
+pub mod designs;
+pub mod judgements;
+pub mod lengths;
+pub mod samples;

@@ -1,0 +1,117 @@
+-- The refusals' numbers are 1 to as many as there are, and what a caller hears of a verdict whose refusal has one of
+-- them is what demand 1 says. Assumes nothing.
+use Prim.Native.Nat.{ℕ, _≤_}
+use mathlib.Core.Path.{_≡_, refl, sym, ap, _∙_, subst}
+use mathlib.Core.Bool.{Bool, true, false, _&&_, _||_}
+use mathlib.Core.List.{List, [], _∷_}
+use mathlib.Core.Logic.{_⊎_, inl, inr}
+use native.Mathlib.Omega.{arith}
+use borrow.Author.Tests.{eqb-true, leb-true}
+use lib.Dec.{T, eqb, leb}
+use lib.ListN.{length}
+use lib.Ieee.{Float}
+use lib.Ieee.Bits.{is-true}
+use lib.Ieee.Fits.{and-l, and-r}
+use Rattle.verdict.specs.Report.{reportOf, acceptedOf}
+use Rattle.verdict.specs.Reports.{lengthReport, outcomeReport, doneReport}
+use Rattle.verdict.specs.Outcome.{Outcome, answered}
+use Rattle.verdict.specs.Outcome as Outcome
+use Rattle.verdict.specs.declared.Refusal.{Refusal}
+use Rattle.verdict.specs.declared.Report.{Report}
+use Rattle.verdict.specs.declared.Verdict.{Verdict}
+use Rattle.verdict.specs.declared.Verdict.the-variants.{Done, Refused}
+use Rattle.verdict.specs.declared.Length.{Length}
+use Rattle.verdict.specs.declared.Length.the-variants as Length
+use Rattle.fir_length.specs.declared.order.Order.{Order}
+use Rattle.fir_length.specs.declared.order.Order.the-variants as Order
+use Rattle.fir_delay.specs.declared.Delayed.{Delayed}
+use Rattle.fir_delay.specs.declared.Delayed.the-variants as Delayed
+use Rattle.fmt_q15.specs.declared.q15.Coded.{Coded}
+use Rattle.fmt_q15.specs.declared.q15.Coded.the-variants as Coded
+use Rattle.c_math.specs.Reports.{orderReport, delayReport, codedReport}
+use Rattle.promise_refusals.specs.Demand.{refusals, listed, IsRefusal, Numbered}
+use Rattle.promise_refusals.specs.Verdicts.{ofLength, ofOrder, ofDelay, ofCoded}
+
+-- ---- the list
+unfoldable every : (ℕ → Bool) → List ℕ → Bool
+every p [] = true
+every p (n ∷ ns) = p n && every p ns
+
+-- what every number of a list passes, one of them does
+one-of : (p : ℕ → Bool) (k : ℕ) (ns : List ℕ) → T (every p ns) → T (listed k ns) → T (p k)
+unfolding every listed
+one-of p k [] h l = absurd l
+one-of p k (n ∷ ns) h l = go (eqb k n) (eqb-true k n) (λ m. one-of p k ns (and-r (p n) (every p ns) h) m) l
+  where
+    go : (b : Bool) → (b ≡ true → k ≡ n) → (T (listed k ns) → T (p k)) → T (b || listed k ns) → T (p k)
+    go true e rest l = subst (λ (m : ℕ). T (p m)) (sym (e refl)) (and-l (p n) (every p ns) h)
+    go false e rest l = rest l
+
+abbrev inRange : ℕ → Bool
+inRange k = leb 1 k && leb k (length refusals)
+
+all-in-range : T (every inRange refusals)
+unfolding every
+all-in-range = tt
+
+-- "1 to 11"
+pub between : (k : ℕ) → IsRefusal k → (1 ≤ k) × (k ≤ length refusals)
+between k l =
+    let h = one-of inRange k refusals all-in-range l in
+    (leb-true 1 k (is-true (leb 1 k) (and-l (leb 1 k) (leb k (length refusals)) h)), leb-true k (length refusals) (is-true (leb k (length refusals)) (and-r (leb 1 k) (leb k (length refusals)) h)))
+
+pub never-zero : (k : ℕ) → IsRefusal k → k ≡ 0 → ⊥
+never-zero k l e = omega (arith, between k l .0, e)
+
+-- ---- a verdict
+-- the number that its caller hears
+abbrev pub heard : Verdict → ℕ
+heard Done = 0
+heard (Refused why) = reportOf why .number
+
+-- a refusal has one of the list
+abbrev pub Listed : Verdict → Type 0
+Listed Done = Unit {0}
+Listed (Refused why) = IsRefusal (reportOf why .number)
+
+never-refused : (why : Refusal) → Refused why ≡ Done → ⊥
+never-refused why e = let z : _≡_ {A = ℕ} 0 1 = cc in omega arith
+
+pub numbered : (v : Verdict) {k : ℕ} → k ≡ heard v → Listed v → Numbered v k
+numbered Done {k} e l = record { number = inl e; accepted = λ d. e; only = λ z. refl }
+numbered (Refused why) {k} e l = record {
+  number = inr (subst IsRefusal (sym e) l);
+  accepted = λ d. absurd (never-refused why d);
+  only = λ z. absurd (never-zero (reportOf why .number) l (sym e ∙ z));
+}
+
+-- ---- what is told of each kind of answer
+pub outcome-heard : (o : Outcome) → outcomeReport o .number ≡ heard (answered o)
+unfolding acceptedOf
+outcome-heard (Outcome.Designed n divisor tap) = refl
+outcome-heard (Outcome.Refused why) = refl
+
+pub done-heard : (n : ℕ) (v : Verdict) → doneReport n v .number ≡ heard v
+unfolding acceptedOf
+done-heard n Done = refl
+done-heard n (Refused why) = refl
+
+pub length-heard : (l : Length) → lengthReport l .number ≡ heard (ofLength l)
+unfolding acceptedOf
+length-heard (Length.Taps n) = refl
+length-heard (Length.Refused why) = refl
+
+pub order-heard : (o : Order) → orderReport o .number ≡ heard (ofOrder o)
+unfolding acceptedOf
+order-heard (Order.Taps n beta) = refl
+order-heard (Order.Refused why) = refl
+
+pub delay-heard : (d : Delayed) → delayReport d .number ≡ heard (ofDelay d)
+unfolding acceptedOf
+delay-heard (Delayed.Samples n) = refl
+delay-heard (Delayed.Refused why) = refl
+
+pub coded-heard : (c : Coded) → codedReport c .number ≡ heard (ofCoded c)
+unfolding acceptedOf
+coded-heard (Coded.Number q) = refl
+coded-heard (Coded.Refused why) = refl
