@@ -1,22 +1,23 @@
 -- The refusals' numbers are 1 to as many as there are, and what a caller hears of a verdict whose refusal has one of
 -- them is what demand 1 says. Assumes nothing.
-use Prim.Native.Nat.{ℕ, _≤_}
+use Prim.Native.Nat.{ℕ, _-_, _%_, _≤_}
 use mathlib.Core.Path.{_≡_, refl, sym, ap, _∙_, subst}
-use mathlib.Core.Bool.{Bool, true, false, _&&_, _||_}
+use mathlib.Core.Bool.{Bool, true, false, cond, _&&_, _||_}
 use mathlib.Core.List.{List, [], _∷_}
 use mathlib.Core.Logic.{_⊎_, inl, inr}
 use native.Mathlib.Omega.{arith}
 use borrow.Author.Tests.{eqb-true, leb-true}
 use lib.Dec.{T, eqb, leb}
 use lib.ListN.{length}
-use lib.Ieee.{Float}
 use lib.Ieee.Bits.{is-true}
 use lib.Ieee.Fits.{and-l, and-r}
+use Rattle.verdict.specs.Numbers.{badLength}
 use Rattle.verdict.specs.Report.{reportOf, acceptedOf}
 use Rattle.verdict.specs.Reports.{lengthReport, outcomeReport, doneReport}
 use Rattle.verdict.specs.Outcome.{Outcome, answered}
 use Rattle.verdict.specs.Outcome as Outcome
 use Rattle.verdict.specs.declared.Refusal.{Refusal}
+use Rattle.verdict.specs.declared.Refusal.the-variants as Refusal
 use Rattle.verdict.specs.declared.Report.{Report}
 use Rattle.verdict.specs.declared.Verdict.{Verdict}
 use Rattle.verdict.specs.declared.Verdict.the-variants.{Done, Refused}
@@ -29,8 +30,10 @@ use Rattle.fir_delay.specs.declared.Delayed.the-variants as Delayed
 use Rattle.fmt_q15.specs.declared.q15.Coded.{Coded}
 use Rattle.fmt_q15.specs.declared.q15.Coded.the-variants as Coded
 use Rattle.c_math.specs.Reports.{orderReport, delayReport, codedReport}
+use Rattle.c_gain.specs.Level.{gainReport}
+use Rattle.c_gain.specs.declared.level.GainReport.{GainReport}
 use Rattle.promise_refusals.specs.Demand.{refusals, listed, IsRefusal, Numbered}
-use Rattle.promise_refusals.specs.Verdicts.{ofLength, ofOrder, ofDelay, ofCoded}
+use Rattle.promise_refusals.specs.Verdicts.{ofLength, ofOrder, ofDelay, ofCoded, ofSamples}
 
 -- ---- the list
 unfoldable every : (ℕ → Bool) → List ℕ → Bool
@@ -115,3 +118,11 @@ pub coded-heard : (c : Coded) → codedReport c .number ≡ heard (ofCoded c)
 unfolding acceptedOf
 coded-heard (Coded.Number q) = refl
 coded-heard (Coded.Refused why) = refl
+
+pub gain-heard : (s : List ℕ) → gainReport s .number ≡ heard (ofSamples s)
+unfolding gainReport reportOf
+gain-heard s = go (eqb (length s % 4) 0) _ _ refl refl
+  where
+    go : (b : Bool) (x y : GainReport) → x .number ≡ 0 → y .number ≡ badLength → cond b x y .number ≡ heard (cond b Done (Refused (Refusal.Length (length s - length s % 4) (length s))))
+    go true x y e f = e
+    go false x y e f = f

@@ -1,0 +1,22 @@
+-- `promise_calls::lengths::delay` meets its contract: what its export ensures, by demand 1. Assumes nothing.
+use Rattle.fir_delay.specs.Delay.{delayOf}
+use Rattle.promise_refusals.specs.Judgements.{delay-listed}
+use Rattle.promise_refusals.specs.Listed.{numbered, delay-heard}
+use Rattle.promise_refusals.specs.Verdicts.{ofDelay}
+use Rattle.verdict.specs.declared.Report.{Report}
+use mathlib.Core.Path.{ap, _∙_}
+use borrow.Author.Needs.{needs}
+use Rattle.promise_calls.proofs.lengths.delay.Statement.{statement}
+use Rattle.promise_calls.proofs.lengths.delay.Tie as tie
+
+pel-delay-requires : tie.Need-pel-delay-requires
+pel-delay-requires c κs = search needs
+
+returns : tie.Need-returns
+returns c =
+    let a = c .before .args in
+    let d = delayOf (a .taps) in
+    numbered (ofDelay d) (ap (λ (r : Report). r .number) (c .pel-delay .ensures) ∙ delay-heard d) (delay-listed (a .taps))
+
+pub delay-spec : {M : Type 1} → statement M
+delay-spec = tie.close (tie.spec pel-delay-requires returns)
