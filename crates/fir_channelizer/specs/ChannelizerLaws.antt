@@ -20,8 +20,8 @@ use Rattle.fir_length.specs.Kaiser.{betaOf, estimate}
 use Rattle.verdict.specs.declared.Length.{Length}
 use Rattle.verdict.specs.declared.Length.the-variants as Length
 use Rattle.fir_lowpass.specs.Lowpass.{lowpassOf, outcomeOf}
-use Rattle.fir_lowpass.specs.LowpassLaws.{never, prepares-as, prepares-refusal}
-use Rattle.fir_lowpass.specs.Cached.{PreparesLowpass}
+use Rattle.fir_lowpass.specs.LowpassLaws.{never, is-design, prepares-as, prepares-refusal}
+use Rattle.fir_lowpass.specs.Cached.{preparedOf, PreparesLowpass}
 use Rattle.fir_sinc.specs.declared.window.Window.the-variants.{Kaiser}
 use Rattle.fir_lowpass.specs.declared.lowpass.Lowpass.{Lowpass}
 use Rattle.fir_lowpass.specs.declared.lowpass.Designed.{Designed}
@@ -122,13 +122,13 @@ module _ (n m : ℕ) (h : 4 ≤ m) where
       omega arith
 
 -- ---- a refusal, as an answer
-pub refuses : (d : Designed) (r : Prepared) (rs : List Float) (why : Refusal) → r .designed ≡ Designed.Refused why → d ≡ Designed.Refused why → PreparesLowpass d r rs
-refuses d r rs why e h = subst (λ (z : Designed). PreparesLowpass d (record { designed = z; i0 = r .i0 }) rs) (sym e) (prepares-refusal d why (r .i0) rs h)
+pub refuses : (d : Designed) (r : Prepared) (rs : List Float) (why : Refusal) → r ≡ preparedOf (Designed.Refused why) → d ≡ Designed.Refused why → PreparesLowpass d r rs
+refuses d r rs why e h = subst (λ (z : Prepared). PreparesLowpass d z rs) (sym e) (prepares-refusal d why rs h)
 
 -- ---- for a buffer of len elements
 pub fits-as : {d : Designed} {r : Prepared} {rs : List Float} {l : Lowpass} {len : ℕ} → r .designed ≡ Designed.Ready l → l .n ≡ len → PreparesLowpass d r rs → PreparesLowpass (fittedOf d len) r rs
 fits-as {d} {r} {rs} {l} {len} e h f =
-    let g : d ≡ Designed.Ready l = sym (f .is) ∙ e in
+    let g : d ≡ Designed.Ready l = sym (is-design f) ∙ e in
     prepares-as (g ∙ sym (ap (λ (z : Designed). fittedOf z len) g ∙ rw (eq-eqb (l .n) len h))) f
 
 -- ---- what an accepted ticket tells

@@ -11,7 +11,7 @@ use verdict::Refusal;
 use verdict::Verdict;
 ghost use mathlib.Core.Path.{_≡_};
 ghost use lib.ListN.{length};
-ghost use Rattle.fir_lowpass.specs.Cached.{PreparesLowpass};
+ghost use Rattle.fir_lowpass.specs.Cached.{preparedOf, PreparesLowpass};
 ghost use Rattle.fir_channelizer.specs.Channelizer.{channelsTaken, branchTaken, stopTaken, attenuationTaken, edgesOf, countTaken, channelizerTapsOf, branchOf, channelizerLowpassOf, fittedOf};
 
 // Whether a channelizer has so many channels: a power of two from 4 to 256.
@@ -123,7 +123,7 @@ pub fn channelizer_taps_per_branch(
 
 // A refusal in place of a design.
 fn refused(why: Refusal) -> Prepared
-    ensures { λ r. ⌜ r .designed ≡ Designed.Refused why ⌝ }
+    ensures { λ r. ⌜ r ≡ preparedOf (Designed.Refused why) ⌝ }
 {
     Prepared {
         designed: Designed::Refused(why),

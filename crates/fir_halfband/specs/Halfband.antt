@@ -76,11 +76,15 @@ unfoldable pub tapOf : HalfbandDesign → ℕ → Float
 unfolding tapWith
 tapOf d k = tapWith d (normOf (d .lp .window)) k
 
--- an answer that is the design d and, where it is one, the series at its beta, and a list that keeps the low-pass's
--- first raw taps
+-- a design with the series at its beta, or a refusal with 1 in its place
+abbrev pub preparedOf : HalfbandDesigned → HalfbandPrepared
+preparedOf (Ready h) = record { designed = Ready h; i0 = normOf (h .lp .window) }
+preparedOf (Refused why) = record { designed = Refused why; i0 = whole 1 }
+
+-- an answer that is what comes of the design d, and, where there is one, a list that keeps the low-pass's first raw
+-- taps
 pub record PreparesHalfband (d : HalfbandDesigned) (r : HalfbandPrepared) (rs : List Float) : Type 0 where
-  pub is : r .designed ≡ d
-  pub kept : (h : HalfbandDesign) → r .designed ≡ Ready h → r .i0 ≡ normOf (h .lp .window)
+  pub answer : r ≡ preparedOf d
   pub raws : (h : HalfbandDesign) → r .designed ≡ Ready h → Caches (h .lp) (r .i0) rs
 
 -- what comes of a ticket

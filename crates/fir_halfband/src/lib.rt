@@ -12,7 +12,7 @@ ghost use Prim.Native.Nat.{_<_};
 ghost use lib.Ieee.{binary64};
 ghost use Rattle.laws.specs.Sums.{sumTo};
 ghost use Rattle.fir_lowpass.specs.Cached.{Caches};
-ghost use Rattle.fir_halfband.specs.Halfband.{lengthTaken, vanishes, unscaledWith, halfbandOf, tapWith, tapOf, PreparesHalfband};
+ghost use Rattle.fir_halfband.specs.Halfband.{lengthTaken, vanishes, unscaledWith, halfbandOf, tapWith, tapOf, preparedOf, PreparesHalfband};
 
 // A design: the low-pass that it is made from, how many taps, and the sum that they are divided by last.
 pub struct HalfbandDesign {
@@ -79,7 +79,7 @@ fn total(lp: Lowpass, i0: f64, raws: &[f64], n: u64) -> f64
 
 // A refusal in place of a design.
 fn refused(why: Refusal) -> HalfbandPrepared
-    ensures { λ r. ⌜ r .designed ≡ HalfbandDesigned.Refused why ⌝ }
+    ensures { λ r. ⌜ r ≡ preparedOf (HalfbandDesigned.Refused why) ⌝ }
 {
     HalfbandPrepared {
         designed: HalfbandDesigned::Refused(why),

@@ -21,7 +21,7 @@ use Rattle.fir_sinc.specs.Windows.{normOf}
 use Rattle.fir_sinc.specs.Taps.{rawAt}
 use Rattle.fir_cache.specs.Cached.{CachesOf}
 use Rattle.fir_lowpass.specs.Lowpass.{divisorOf, inside, countTaken, betaTaken, usable, lowpassOf, tapWith, tapOf, tapsOf, outcomeOf}
-use Rattle.fir_lowpass.specs.Cached.{Caches, PreparesLowpass}
+use Rattle.fir_lowpass.specs.Cached.{Caches, Normed, preparedOf, PreparesLowpass}
 use Rattle.fir_sinc.specs.declared.window.Window.{Window}
 use Rattle.fir_lowpass.specs.declared.lowpass.Lowpass.{Lowpass}
 use Rattle.fir_lowpass.specs.declared.lowpass.Designed.{Designed}
@@ -76,22 +76,38 @@ module _ (cutoff rate : Float) (w : Window) (n : ℕ) where
   no-rate a = rw a
 
   -- a refusal, as an answer
-  pub refuses : (r : Prepared) (rs : List Float) (why : Refusal) → r .designed ≡ Refused why → lowpassOf cutoff rate w n ≡ Refused why → PreparesLowpass (lowpassOf cutoff rate w n) r rs
-  refuses r rs why e h = record { is = e ∙ sym h; kept = λ l g. absurd (never why l (sym e ∙ g)); raws = λ l g. absurd (never why l (sym e ∙ g)) }
+  pub refuses : (r : Prepared) (rs : List Float) (why : Refusal) → r ≡ preparedOf (Refused why) → lowpassOf cutoff rate w n ≡ Refused why → PreparesLowpass (lowpassOf cutoff rate w n) r rs
+  refuses r rs why e h = record { answer = e ∙ ap preparedOf (sym h); raws = λ l g. absurd (never why l (sym (ap (λ (z : Prepared). z .designed) e) ∙ g)) }
 
   -- a design, as an answer
   same-record : (l m : Lowpass) → Ready l ≡ Ready m → l ≡ m
   same-record l m e = cc
+
+  abbrev prepared : Float → Float → Prepared
+  prepared s i0 = record { designed = Ready (record { n = n; fc = cutoff ⊘ rate; window = w; sum = s }); i0 = i0 }
 
   pub accepts : (s i0 : Float) (rs : List Float) → s ≡ divisorOf (cutoff ⊘ rate) w n → i0 ≡ normOf w → CachesOf (rawAt (cutoff ⊘ rate) w i0 n) n rs → lowpassOf cutoff rate w n ≡ Ready (record { n = n; fc = cutoff ⊘ rate; window = w; sum = divisorOf (cutoff ⊘ rate) w n })
       → PreparesLowpass (lowpassOf cutoff rate w n) (record { designed = Ready (record { n = n; fc = cutoff ⊘ rate; window = w; sum = s }); i0 = i0 }) rs
   accepts s i0 rs e g k h =
       let r : Lowpass = record { n = n; fc = cutoff ⊘ rate; window = w; sum = s } in
       record {
-        is = ap (λ (z : Float). Ready (record { n = n; fc = cutoff ⊘ rate; window = w; sum = z })) e ∙ sym h;
-        kept = λ l q. g ∙ ap (λ (z : Lowpass). normOf (z .window)) (same-record r l q);
+        answer =
+            ap (λ (z : Float). prepared z i0) e
+            ∙ ap (λ (z : Float). prepared (divisorOf (cutoff ⊘ rate) w n) z) g
+            ∙ ap preparedOf (sym h);
         raws = λ l q. subst (λ (z : Lowpass). Caches z i0 rs) (same-record r l q) k;
       }
+
+-- ---- what an answer tells: the design, and where it is one the series at its beta
+designed-of : (d : Designed) → preparedOf d .designed ≡ d
+designed-of (Ready l) = refl
+designed-of (Refused why) = refl
+
+pub is-design : {d : Designed} {r : Prepared} {rs : List Float} → PreparesLowpass d r rs → r .designed ≡ d
+is-design {d} p = ap (λ (z : Prepared). z .designed) (p .answer) ∙ designed-of d
+
+pub has-series : {d : Designed} {r : Prepared} {rs : List Float} → PreparesLowpass d r rs → Normed r
+has-series p l g = ap (λ (z : Prepared). z .i0) (p .answer) ∙ ap (λ (z : Designed). preparedOf z .i0) (sym (is-design p) ∙ g)
 
 -- ---- what an accepted ticket tells
 pub record AcceptedLowpass (cutoff rate : Float) (w : Window) (n : ℕ) (l : Lowpass) : Type 0 where
@@ -131,8 +147,8 @@ fills-as p f = Outcome.fills-as (ap outcomeOf p) f
 pub prepares-as : {d e : Designed} {r : Prepared} {rs : List Float} → d ≡ e → PreparesLowpass d r rs → PreparesLowpass e r rs
 prepares-as {d} {e} {r} {rs} p f = subst (λ (z : Designed). PreparesLowpass z r rs) p f
 
-pub prepares-refusal : (d : Designed) (why : Refusal) (i0 : Float) (rs : List Float) → d ≡ Refused why → PreparesLowpass d (record { designed = Refused why; i0 = i0 }) rs
-prepares-refusal d why i0 rs e = record { is = sym e; kept = λ l g. absurd (never why l g); raws = λ l g. absurd (never why l g) }
+pub prepares-refusal : (d : Designed) (why : Refusal) (rs : List Float) → d ≡ Refused why → PreparesLowpass d (preparedOf (Refused why)) rs
+prepares-refusal d why rs e = record { answer = ap preparedOf (sym e); raws = λ l g. absurd (never why l g) }
 
 -- ---- an accepted design has as many taps as it was asked for
 pub lowpass-count : (cutoff rate : Float) (w : Window) (n : ℕ) → Counted n (outcomeOf (lowpassOf cutoff rate w n))

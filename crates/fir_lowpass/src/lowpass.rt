@@ -12,7 +12,7 @@ use verdict::BAD_SUM;
 use verdict::Refusal;
 ghost use mathlib.Core.Path.{_≡_};
 ghost use Rattle.fir_lowpass.specs.Lowpass.{inside, countTaken, betaTaken, usable, lowpassOf, tapWith, tapOf};
-ghost use Rattle.fir_lowpass.specs.Cached.{Caches, PreparesLowpass};
+ghost use Rattle.fir_lowpass.specs.Cached.{Caches, preparedOf, PreparesLowpass};
 
 // A design: how many taps, the cutoff as a fraction of the rate, the window, and the sum that the taps are divided by.
 pub struct Lowpass {
@@ -69,7 +69,7 @@ pub fn is_usable(s: f64) -> bool
 
 // A refusal in place of a design.
 fn refused(why: Refusal) -> Prepared
-    ensures { λ r. ⌜ r .designed ≡ Designed.Refused why ⌝ }
+    ensures { λ r. ⌜ r ≡ preparedOf (Designed.Refused why) ⌝ }
 {
     Prepared {
         designed: Designed::Refused(why),

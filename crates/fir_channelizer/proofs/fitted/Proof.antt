@@ -2,6 +2,7 @@
 use mathlib.Core.Path.{sym, ap, _∙_}
 use borrow.Author.Needs.{needs}
 use borrow.Author.Tests.{ne-eqb}
+use Rattle.fir_lowpass.specs.LowpassLaws.{is-design}
 use Rattle.fir_lowpass.specs.declared.lowpass.Designed.{Designed}
 use Rattle.fir_channelizer.specs.Channelizer.{fittedOf}
 use Rattle.fir_channelizer.specs.ChannelizerLaws.{refuses, fits-as}
@@ -41,7 +42,7 @@ returns-2 c =
     let a = p .before .before .before .args in
     let g = d .designed .given in
     refuses _ (c .refused .result) _ _ (c .refused .ensures)
-    (ap (λ (z : Designed). fittedOf z (a .len)) (sym (p .prepare .ensures .is) ∙ g .1) ∙ rw (ne-eqb (g .0 .0 .n) (a .len) (c .before .if1 .left)))
+    (ap (λ (z : Designed). fittedOf z (a .len)) (sym (is-design (p .prepare .ensures)) ∙ g .1) ∙ rw (ne-eqb (g .0 .0 .n) (a .len) (c .before .if1 .left)))
 
 same-length-3 : tie.Need-same-length-3
 same-length-3 c = search needs
@@ -51,7 +52,7 @@ returns-3 c =
     let d = c .before .before in
     let p = d .before .before .before .before in
     let a = p .before .before .before .args in
-    refuses _ (c .refused2 .result) _ _ (c .refused2 .ensures) (ap (λ (z : Designed). fittedOf z (a .len)) (sym (p .prepare .ensures .is) ∙ d .designed2 .given .1))
+    refuses _ (c .refused2 .result) _ _ (c .refused2 .ensures) (ap (λ (z : Designed). fittedOf z (a .len)) (sym (is-design (p .prepare .ensures)) ∙ d .designed2 .given .1))
 
 pub fitted-spec : {M : Type 1} → statement M
 fitted-spec =

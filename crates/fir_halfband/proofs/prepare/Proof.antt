@@ -6,6 +6,7 @@ use borrow.Author.Tests.{not-true, not-false}
 use lib.Ieee.{Float, binary64, ofBits, ofInt, round}
 use Rattle.laws.specs.Sums.{sumTo}
 use Rattle.fir_lowpass.specs.Lowpass.{usable}
+use Rattle.fir_lowpass.specs.LowpassLaws.{is-design, has-series}
 use Rattle.fir_lowpass.specs.declared.lowpass.Lowpass.{Lowpass}
 use Rattle.fir_halfband.specs.Halfband.{lengthTaken, quarterOf, unscaledWith, unscaled, divisorOf}
 use Rattle.fir_halfband.specs.HalfbandLaws.{ready, no-divisor, no-lowpass, no-length, refuses, accepts}
@@ -58,7 +59,7 @@ start c = c .before .before .before .before .before
 -- 0.25 and 1.0 are the definition's quarter of the rate
 quarter : (c : tie.After-prepare) → quarterOf (start c .args .beta) (start c .args .n) ≡ c .prepare .result .designed
 unfolding ofInt ofBits round
-quarter c = sym (c .prepare .ensures .is)
+quarter c = sym (is-design (c .prepare .ensures))
 
 abbrev designed : tie.After-total → tie.After-prepare
 designed c = c .before .before .before .before .before .before .before
@@ -73,7 +74,7 @@ divided c =
     let p = designed c .prepare in
     let e = c .before .before .before .designed .given .1 in
     let n = start (designed c) .args .n in
-    c .total .ensures (p .ensures .raws (lowpass c) e) ∙ ap (λ (z : Float). sumTo binary64 (unscaledWith (lowpass c) z n) n) (p .ensures .kept (lowpass c) e)
+    c .total .ensures (p .ensures .raws (lowpass c) e) ∙ ap (λ (z : Float). sumTo binary64 (unscaledWith (lowpass c) z n) n) (has-series (p .ensures) (lowpass c) e)
 
 returns : tie.Need-returns
 returns c =
@@ -94,7 +95,7 @@ returns-3 c =
     let p = designed t in
     let a = start p .args in
     let e = t .before .before .before .designed .given .1 in
-    accepts (a .beta) (a .n) (lowpass t) (t .total .result) (p .prepare .result .i0) _ (divided t) (p .prepare .ensures .kept (lowpass t) e) (p .prepare .ensures .raws (lowpass t) e)
+    accepts (a .beta) (a .n) (lowpass t) (t .total .result) (p .prepare .result .i0) _ (divided t) (has-series (p .prepare .ensures) (lowpass t) e) (p .prepare .ensures .raws (lowpass t) e)
     (ready (a .beta) (a .n) (past (p .before .before)) (lowpass t) (quarter p ∙ e) (ap usable (sym (divided t)) ∙ sym (c .before .is-usable .ensures) ∙ not-false _ (c .if2 .left)))
 
 returns-4 : tie.Need-returns-4

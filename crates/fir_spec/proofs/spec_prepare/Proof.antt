@@ -1,6 +1,7 @@
 -- `fir_spec::spec_prepare` meets its contract. Assumes nothing.
 use mathlib.Core.Path.{sym, ap, _∙_}
 use borrow.Author.Tests.{eq-eqb, ne-eqb}
+use lib.Ieee.{ofBits, ofInt}
 use Rattle.fir_lowpass.specs.LowpassLaws.{prepares-as, prepares-refusal}
 use Rattle.fir_spec.specs.Spec.{designIn, specDesignOf}
 use borrow.Author.Needs.{needs}
@@ -31,18 +32,18 @@ returns c =
     prepares-as (sym (ap (designIn (a .spec) (a .rate) (a .len)) (sym (o .before .before .spec-order .ensures) ∙ g .1) ∙ rw (eq-eqb (g .0 .0) (a .len) (c .before .before .before .before .if1 .taken)))) (c .before .before .prepare .ensures)
 
 returns-2 : tie.Need-returns-2
-unfolding specDesignOf
+unfolding specDesignOf ofInt ofBits
 returns-2 c =
     let o = c .before .before in
     let a = o .before .before .before .before .args in
     let g = o .order .given in
-    prepares-refusal _ _ _ _ (ap (designIn (a .spec) (a .rate) (a .len)) (sym (o .before .before .spec-order .ensures) ∙ g .1) ∙ rw (ne-eqb (g .0 .0) (a .len) (c .if1 .left)))
+    prepares-refusal _ _ _ (ap (designIn (a .spec) (a .rate) (a .len)) (sym (o .before .before .spec-order .ensures) ∙ g .1) ∙ rw (ne-eqb (g .0 .0) (a .len) (c .if1 .left)))
 
 returns-3 : tie.Need-returns-3
-unfolding specDesignOf
+unfolding specDesignOf ofInt ofBits
 returns-3 c =
     let a = c .before .before .before .before .before .args in
-    prepares-refusal _ _ _ _ (ap (designIn (a .spec) (a .rate) (a .len)) (sym (c .before .before .before .spec-order .ensures) ∙ c .before .order2 .given .1))
+    prepares-refusal _ _ _ (ap (designIn (a .spec) (a .rate) (a .len)) (sym (c .before .before .before .spec-order .ensures) ∙ c .before .order2 .given .1))
 
 pub spec-prepare-spec : {M : Type 1} → statement M
 spec-prepare-spec =
