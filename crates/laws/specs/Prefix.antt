@@ -3,8 +3,8 @@
 use mathlib.Core.Path.{_≡_, refl, ap}
 use mathlib.Core.Bool.{Bool, true, false}
 use mathlib.Core.List.{List, [], _∷_}
-use Prim.Native.Nat.{ℕ, suc, _+_, _<_, _≤_, zero-le}
-use native.Mathlib.Nat.{suc-le-suc-iff}
+use Prim.Native.Nat.{ℕ, zero, suc, _+_, _<_, _≤_, zero-le}
+use native.Mathlib.Nat.{suc-le-suc-iff, not-suc-le-zero}
 use native.Mathlib.Numerals.{add-one}
 use native.Mathlib.Omega.{arith}
 use lib.ListN.{length, drop, getD, drop-of-length-le}
@@ -42,6 +42,26 @@ module _ {A : Type 0} (p : A → Bool) where
       go : (b : Bool) → suc (firstBad l) ≤ suc (length l) → oneMore b (firstBad l) ≤ suc (length l)
       go true h = h
       go false h = zero-le
+
+  -- it fails there, and no element before it does
+  pub bad-fails : (l : List A) (z : A) → firstBad l < length l → p (getD l (firstBad l) z) ≡ false
+  unfolding firstBad
+  bad-fails [] z h = absurd (not-suc-le-zero h)
+  bad-fails (x ∷ l) z h = go (p x) refl (bad-fails l z) h
+    where
+      go : (b : Bool) → p x ≡ b → (firstBad l < length l → p (getD l (firstBad l) z) ≡ false) → oneMore b (firstBad l) < suc (length l) → p (getD (x ∷ l) (oneMore b (firstBad l)) z) ≡ false
+      go true e rest h = rest (omega (arith, h))
+      go false e rest h = e
+
+  pub good-before : (l : List A) (i : ℕ) (z : A) → i < firstBad l → p (getD l i z) ≡ true
+  unfolding firstBad
+  good-before [] i z h = absurd (not-suc-le-zero h)
+  good-before (x ∷ l) i z h = go (p x) refl (λ j. good-before l j z) i h
+    where
+      go : (b : Bool) → p x ≡ b → ((i : ℕ) → i < firstBad l → p (getD l i z) ≡ true) → (i : ℕ) → i < oneMore b (firstBad l) → p (getD (x ∷ l) i z) ≡ true
+      go true e rest zero h = e
+      go true e rest (suc i) h = rest i (omega (arith, h))
+      go false e rest i h = absurd (not-suc-le-zero h)
 
 -- a test that everything passes
 pub bad-none : {A : Type 0} (l : List A) → firstBad (λ x. true) l ≡ length l

@@ -11,7 +11,7 @@ use lib.Dec.{T, eqb}
 use lib.ListN.{length, take, drop}
 use lib.Ieee.{Float}
 use Rattle.laws.specs.Chunks.{chunks}
-use Rattle.verdict.specs.Numbers.{badRate, badFrequency, badTransition, badAttenuation, badShape, badCount, badCode, badLength, tooManyTaps, badSum, badElement}
+use Rattle.verdict.specs.Numbers.{refusals, badElement}
 use Rattle.verdict.specs.Outcome.{Outcome, answered}
 use Rattle.verdict.specs.Outcome as Outcome
 use Rattle.verdict.specs.Converts.{takenOf, thenOf}
@@ -24,10 +24,7 @@ use Rattle.c_formats.specs.Formats.{widthOf, takesOf, outsideOf, bytesIn}
 use Rattle.c_formats.specs.Conversions.{floats, lengthsOf}
 
 -- ---- the number
--- all refusals: a new number joins this list
-abbrev pub refusals : List ℕ
-refusals = badRate ∷ badFrequency ∷ badTransition ∷ badAttenuation ∷ badShape ∷ badCount ∷ badCode ∷ badLength ∷ tooManyTaps ∷ badSum ∷ badElement ∷ []
-
+-- one of a list
 unfoldable pub listed : ℕ → List ℕ → Bool
 listed k [] = false
 listed k (n ∷ ns) = eqb k n || listed k ns

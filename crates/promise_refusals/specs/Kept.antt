@@ -1,10 +1,10 @@
 -- Demand 1 from what an export ensures: of a design that writes its elements, and of a conversion. Assumes nothing.
-use Prim.Native.Nat.{ℕ, zero, suc, _+_, _*_, _/_, _%_, _<_, _≤_}
+use Prim.Native.Nat.{ℕ, _*_, _/_, _%_, _<_, _≤_}
 use mathlib.Core.Path.{_≡_, refl, sym, ap, _∙_, subst}
 use mathlib.Core.Bool.{Bool, true, false, cond}
 use mathlib.Core.List.{List, [], _∷_}
 use mathlib.Core.Logic.{_⊎_, inl, inr}
-use native.Mathlib.Nat.{le-of-eq, not-suc-le-zero}
+use native.Mathlib.Nat.{le-of-eq}
 use native.Mathlib.Omega.{arith}
 use borrow.Author.Tests.{eqb-true, eqb-false}
 use lib.Dec.{T, eqb}
@@ -14,7 +14,7 @@ use lib.Ieee.{Float, nan}
 use Rattle.laws.specs.Cases.{either, either-way}
 use Rattle.laws.specs.Chunks.{chunks, chunked, chunks-below, length-chunks, chunk-all}
 use Rattle.laws.specs.Filled.{getD-tabulate}
-use Rattle.laws.specs.Prefix.{firstBad, oneMore, bad-le}
+use Rattle.laws.specs.Prefix.{firstBad, bad-le, bad-fails, good-before}
 use Rattle.verdict.specs.Numbers.{badLength, badElement}
 use Rattle.verdict.specs.Report.{reportOf, acceptedOf}
 use Rattle.verdict.specs.Reports.{outcomeReport, doneReport}
@@ -57,27 +57,6 @@ filled-or-kept {bytes} {o} {before} {after} {r} l w size =
       kept = λ h. w .buffer ∙ where-not bytes before o (λ e. h (told ∙ e));
       size = size;
     }
-
--- ---- the first element that isn't taken
-module _ {A : Type 0} (p : A → Bool) (z : A) where
-  bad-fails : (l : List A) → firstBad p l < length l → p (getD l (firstBad p l) z) ≡ false
-  unfolding firstBad
-  bad-fails [] h = absurd (not-suc-le-zero h)
-  bad-fails (x ∷ l) h = go (p x) refl (bad-fails l) h
-    where
-      go : (b : Bool) → p x ≡ b → (firstBad p l < length l → p (getD l (firstBad p l) z) ≡ false) → oneMore b (firstBad p l) < suc (length l) → p (getD (x ∷ l) (oneMore b (firstBad p l)) z) ≡ false
-      go true e rest h = rest (omega (arith, h))
-      go false e rest h = e
-
-  good-before : (l : List A) (i : ℕ) → i < firstBad p l → p (getD l i z) ≡ true
-  unfolding firstBad
-  good-before [] i h = absurd (not-suc-le-zero h)
-  good-before (x ∷ l) i h = go (p x) refl (good-before l) i h
-    where
-      go : (b : Bool) → p x ≡ b → ((i : ℕ) → i < firstBad p l → p (getD l i z) ≡ true) → (i : ℕ) → i < oneMore b (firstBad p l) → p (getD (x ∷ l) i z) ≡ true
-      go true e rest zero h = e
-      go true e rest (suc i) h = rest i (omega (arith, h))
-      go false e rest i h = absurd (not-suc-le-zero h)
 
 -- ---- a conversion: it ends in one of three ways
 -- a refusal of its lengths has their number
@@ -184,8 +163,8 @@ module _ {f : Format} {g : ℕ} {s before : List ℕ} {r : Report} {after : List
       subst (λ (k : ℕ). StopsAt f s before k after) (sym (p .index))
       (record {
         within = p .some;
-        not-taken = ap (takesOf f) (sym (element-is bad (p .some))) ∙ bad-fails (takesOf f) nan (floats s) (omega (arith, p .some, count s));
-        first = λ i h. ap (takesOf f) (sym (element-is i (omega (arith, h, p .some)))) ∙ good-before (takesOf f) nan (floats s) i h;
+        not-taken = ap (takesOf f) (sym (element-is bad (p .some))) ∙ bad-fails (takesOf f) (floats s) nan (omega (arith, p .some, count s));
+        first = λ i h. ap (takesOf f) (sym (element-is i (omega (arith, h, p .some)))) ∙ good-before (takesOf f) (floats s) i nan h;
         front = ap (take (widthOf f * bad)) (front-is (p .fit)) ∙ take-at (chunks bad chunk) (drop (widthOf f * bad) before) (widthOf f * bad) (length-chunks (widthOf f) chunk width bad) ∙ chunks-are bad (omega (arith, p .some));
         rest = ap (drop (widthOf f * bad)) (front-is (p .fit)) ∙ drop-at (chunks bad chunk) (drop (widthOf f * bad) before) (widthOf f * bad) (length-chunks (widthOf f) chunk width bad);
       })

@@ -11,7 +11,7 @@ use lib.Dec.{T, eqb, leb}
 use lib.ListN.{length}
 use lib.Ieee.Bits.{is-true}
 use lib.Ieee.Fits.{and-l, and-r}
-use Rattle.verdict.specs.Numbers.{badLength}
+use Rattle.verdict.specs.Numbers.{refusals, badLength}
 use Rattle.verdict.specs.Report.{reportOf, acceptedOf}
 use Rattle.verdict.specs.Reports.{lengthReport, outcomeReport, doneReport}
 use Rattle.verdict.specs.Outcome.{Outcome, answered}
@@ -32,7 +32,7 @@ use Rattle.fmt_q15.specs.declared.q15.Coded.the-variants as Coded
 use Rattle.c_math.specs.Reports.{orderReport, delayReport, codedReport}
 use Rattle.c_gain.specs.Level.{gainReport}
 use Rattle.c_gain.specs.declared.level.GainReport.{GainReport}
-use Rattle.promise_refusals.specs.Demand.{refusals, listed, IsRefusal, Numbered}
+use Rattle.promise_refusals.specs.Demand.{listed, IsRefusal, Numbered}
 use Rattle.promise_refusals.specs.Verdicts.{ofLength, ofOrder, ofDelay, ofCoded, ofSamples}
 
 -- ---- the list

@@ -1,5 +1,7 @@
--- The refusals' numbers by name. Definitions only. A new number is a line here, one in the code and one in the header.
+-- The refusals' numbers by name, and the list of them all. Definitions only. A new number is a definition and a place
+-- in the list here, a line in the code and one in the header.
 use Prim.Native.Nat.{ℕ}
+use mathlib.Core.List.{List, [], _∷_}
 
 -- ---- caused by the ticket's author
 -- the rate
@@ -47,3 +49,7 @@ badSum = 10
 -- an element that Q15 or Q14 can't take
 abbrev pub badElement : ℕ
 badElement = 11
+
+-- ---- all of them
+abbrev pub refusals : List ℕ
+refusals = badRate ∷ badFrequency ∷ badTransition ∷ badAttenuation ∷ badShape ∷ badCount ∷ badCode ∷ badLength ∷ tooManyTaps ∷ badSum ∷ badElement ∷ []

@@ -2,7 +2,7 @@
 use Prim.Native.Nat.{ℕ, zero, suc, _+_, _-_, _*_, _/_, _%_}
 use mathlib.Core.List.{List, [], _∷_}
 use mathlib.Core.Bool.{cond}
-use lib.Dec.{leb}
+use lib.Dec.{leb, ltb}
 use lib.ListN.{length, take, drop}
 use lib.Seq.{sets}
 use lib.IntN.{ℤ, pos, negsuc}
@@ -50,6 +50,20 @@ floatAt d at = floatOf (take 8 (drop at d))
 
 abbrev pub floatsIn : ℕ → List ℕ → List Float
 floatsIn n d = tabulate n (λ i. floatAt d (8 * i))
+
+-- the signed number in 16 bits: from 32768 on n stands for n − 65536, `negsuc k` being −(k + 1)
+abbrev pub signedOf : ℕ → ℤ
+signedOf n = cond (ltb n 32768) (pos n) (negsuc (65535 - n))
+
+-- the one in two bytes, and the n of a buffer
+abbrev pub codeOf : List ℕ → ℤ
+codeOf bs = signedOf (numberOf bs)
+
+abbrev pub codeAt : List ℕ → ℕ → ℤ
+codeAt d at = codeOf (take 2 (drop at d))
+
+abbrev pub codesIn : ℕ → List ℕ → List ℤ
+codesIn n d = tabulate n (λ i. codeAt d (2 * i))
 
 -- ---- the same of an f32, four bytes
 -- a NaN has the pattern 7FC00000
