@@ -1,5 +1,6 @@
 // Lengths, the delay and single numbers: the number is 0 exactly where there is one, else one of the refusals'.
 use verdict::Report;
+ghost use mathlib.Core.Path.{_≡_};
 ghost use Rattle.fir_length.specs.Kaiser.{orderOf, halfbandLenOf};
 ghost use Rattle.fir_delay.specs.Delay.{delayOf};
 ghost use Rattle.fir_spec.specs.Spec.{numTapsOf};
@@ -68,4 +69,11 @@ pub fn q14_from_f64(x: f64) -> Report
     ensures { λ r. ⌜ Numbered (ofCoded (q14TapOf 0 x)) (r .number) ⌝ }
 {
     c_math::single::pel_q14_from_f64(x)
+}
+
+// The series has a value for every number.
+pub fn bessel_i0(x: f64) -> Report
+    ensures { λ r. ⌜ r .number ≡ 0 ⌝ }
+{
+    c_math::shape::pel_bessel_i0(x)
 }

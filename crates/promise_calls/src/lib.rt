@@ -3,6 +3,7 @@
 pub mod coefficients;
 pub mod conversions;
 pub mod designs;
+pub mod filters;
 pub mod judgements;
 pub mod lengths;
 pub mod samples;
