@@ -1,27 +1,25 @@
--- From taps to Q15 in bytes: what `pel_to_q15` writes when it accepts is, element by element, the number that `q15_tap`
--- makes, so that the Q15 total is about the bytes that a reader's filter runs on. The same of the other formats on the
--- way. Assumes nothing.
-use mathlib.Core.Path.{_≡_, refl, ap, _∙_, subst}
+-- What an accepted conversion tells, in any format: its source is whole f64s, each of which is taken, and its bytes are
+-- those of every element, the first one first. Assumes nothing.
+use mathlib.Core.Path.{_≡_, refl, sym, ap, _∙_, subst}
 use mathlib.Core.Bool.{Bool, true, false, cond}
-use mathlib.Core.List.{List}
-use Prim.Native.Nat.{ℕ, _*_, _/_, _%_, _<_}
+use mathlib.Core.List.{List, [], _∷_}
+use Prim.Native.Nat.{ℕ, suc, _*_, _/_, _%_}
 use native.Mathlib.Nat.{le-of-eq}
 use native.Mathlib.Omega.{arith}
 use borrow.Author.Tests.{eqb-true}
-use lib.Dec.{eqb}
-use lib.ListN.{length, take, drop, getD}
+use lib.Dec.{T, eqb}
+use lib.ListN.{length, getD}
 use lib.Ieee.{Float, nan}
-use Rattle.laws.specs.Chunks.{chunked, chunk-all}
+use Rattle.laws.specs.Chunks.{chunks, chunked, chunks-below, chunk-all}
 use Rattle.laws.specs.Filled.{getD-tabulate}
-use Rattle.laws.specs.Prefix.{firstBad}
-use Rattle.wire.specs.Bytes.{floatAt, codeBytes}
+use Rattle.laws.specs.Prefix.{oneMore, firstBad}
+use Rattle.laws.specs.SumError.{Each}
+use Rattle.wire.specs.Bytes.{floatAt}
 use Rattle.wire.specs.Laws.{length-bytes}
-use Rattle.wire.specs.Read.{chunk-at}
 use Rattle.verdict.specs.declared.Refusal.{Refusal}
 use Rattle.verdict.specs.declared.Refusal.the-variants.{Length}
 use Rattle.verdict.specs.declared.Report.{Report}
-use Rattle.verdict.specs.Report.{reportOf}
-use Rattle.fmt_q15.specs.Q15.{q15Of}
+use Rattle.verdict.specs.Report.{reportOf, acceptedOf}
 use Rattle.verdict.specs.declared.Verdict.{Verdict}
 use Rattle.verdict.specs.declared.Verdict.the-variants.{Done, Refused}
 use Rattle.verdict.specs.Reports.{doneReport}
@@ -32,6 +30,13 @@ use Rattle.c_formats.specs.declared.element.Format.the-variants.{Q15, Q14, Sing
 use Rattle.c_formats.specs.Formats.{widthOf, takesOf, patternOf, outsideOf, bytesIn}
 use Rattle.c_formats.specs.Conversions.{floats, lengthsOf, storedOf, ConvertsBytes}
 use Rattle.c_formats.specs.ConversionLaws.{right-lengths, count}
+
+-- ---- the statement, of a conversion's source, report and destination
+pub record Converted (f : Format) (s : List ℕ) (r : Report) (after : List ℕ) : Type 0 where
+  pub whole : length s % 8 ≡ 0
+  pub counted : r .count ≡ length s / 8
+  pub taken : Each (takesOf f) (floats s)
+  pub bytes : after ≡ chunks (length s / 8) (λ i. bytesIn f (floatAt s (8 * i)))
 
 -- ---- an accepted conversion is done: none of its refusals has the number 0
 abbrev ZeroIsDone : Verdict → Type 0
@@ -66,26 +71,36 @@ both-done : (a b : Verdict) → ZeroIsDone a → ZeroIsDone b → (n : ℕ) → 
 both-done Done b p q n e = (refl, q n e)
 both-done (Refused why) b p q n e = let never = p n e in (never, cc)
 
--- ---- its bytes, in any format
--- "Accepted": the report's number is 0, and then its count is the number of elements.
-pub element-bytes : (f : Format) (g : ℕ) (s before after : List ℕ) (r : Report) → ConvertsBytes f g s before r after → r .number ≡ 0 → (i : ℕ) → i < length s / 8 → take (widthOf f) (drop (widthOf f * i) after) ≡ bytesIn f (floatAt s (8 * i))
-unfolding takenOf storedOf
-element-bytes f g s before after r c e i h =
+-- ---- where no element is the first that isn't taken, each one is
+all-taken : (p : Float → Bool) (l : List Float) → firstBad p l ≡ length l → Each p l
+unfolding firstBad
+all-taken p [] e = tt
+all-taken p (x ∷ l) e = go (p x) refl e (all-taken p l)
+  where
+    go : (b : Bool) → p x ≡ b → oneMore b (firstBad p l) ≡ suc (length l) → (firstBad p l ≡ length l → Each p l) → T (p x) × Each p l
+    go true h e rest = (subst T (sym h) tt, rest (omega (arith, e)))
+    go false h e rest = absurd (omega (arith, e))
+
+-- ---- "accepted": the report's number is 0
+pub accepted-conversion : (f : Format) (g : ℕ) (s before after : List ℕ) (r : Report) → ConvertsBytes f g s before r after → r .number ≡ 0 → Converted f s r after
+unfolding takenOf storedOf acceptedOf
+accepted-conversion f g s before after r c e =
     let n = length s / 8 in
     let w = widthOf f in
     let bytes : ℕ → List ℕ = λ k. bytesIn f (getD (floats s) k nan) in
     let width : (k : ℕ) → length (bytesIn f (getD (floats s) k nan)) ≡ w = λ k. length-bytes w (patternOf f (getD (floats s) k nan)) in
     let lengths = lengthsOf w g (length s) (length before) in
-    let done = both-done lengths (takenOf (takesOf f) (outsideOf f) (floats s)) (lengths-zero w g (length s) (length before)) (taken-zero f (floats s)) n (subst (λ (z : Report). z .number ≡ 0) (c .answer) e) in
+    let taking = takenOf (takesOf f) (outsideOf f) (floats s) in
+    let done = both-done lengths taking (lengths-zero w g (length s) (length before)) (taken-zero f (floats s)) n (subst (λ (z : Report). z .number ≡ 0) (c .answer) e) in
+    let right = right-lengths w g (length s) (length before) (done .0) in
     let bad = firstBad (takesOf f) (floats s) in
-    let all = eqb-true bad (length (floats s)) (only-done (eqb bad (length (floats s))) Done _ (done .1) .0) ∙ count s in
+    let all = eqb-true bad (length (floats s)) (only-done (eqb bad (length (floats s))) Done _ (done .1) .0) in
     let stored = ap (λ (l : Verdict). leftOf l (storedOf f (floats s) before) before) (done .0) in
-    let written : after ≡ chunked w n bytes before = c .buffer ∙ stored ∙ ap (λ (k : ℕ). chunked w k bytes before) all in
-    ap (λ (d : List ℕ). take w (drop (w * i) d)) (written ∙ chunk-all w bytes width n before (le-of-eq (right-lengths w g (length s) (length before) (done .0) .1)))
-    ∙ chunk-at w bytes width n i h
-    ∙ ap (bytesIn f) (getD-tabulate n (λ k. floatAt s (8 * k)) i nan h)
-
--- ---- in Q15: `ConvertsBytes Q15 1` is what `pel_to_q15` ensures
-pub q15-bytes : (s before after : List ℕ) (r : Report) → ConvertsBytes Q15 1 s before r after → r .number ≡ 0 → (i : ℕ) → i < length s / 8 → take 2 (drop (2 * i) after) ≡ codeBytes (q15Of (floatAt s (8 * i)))
-unfolding widthOf patternOf
-q15-bytes s before after r c e i h = element-bytes Q15 1 s before after r c e i h
+    let written : after ≡ chunked w n bytes before = c .buffer ∙ stored ∙ ap (λ (k : ℕ). chunked w k bytes before) (all ∙ count s) in
+    let told : r ≡ doneReport n Done = c .answer ∙ ap (λ (l : Verdict). doneReport n (thenOf l taking)) (done .0) ∙ ap (doneReport n) (done .1) in
+    record {
+      whole = right .0;
+      counted = ap (λ (z : Report). z .count) told;
+      taken = all-taken (takesOf f) (floats s) all;
+      bytes = written ∙ chunk-all w bytes width n before (le-of-eq (right .1)) ∙ chunks-below n bytes (λ i. bytesIn f (floatAt s (8 * i))) (λ i h. ap (bytesIn f) (getD-tabulate n (λ k. floatAt s (8 * k)) i nan h));
+    }

@@ -7,3 +7,6 @@ pub mod Mirror
 pub mod Met
 pub mod Chain
 pub mod Conversions
+pub mod ReadCodes
+pub mod Filter
+pub mod Slices

@@ -1,10 +1,13 @@
 -- A real ticket of each kind meets every premise of both totals: it is accepted, its last divisor and its taps are
--- finite, Q15 takes each of them and none saturates. Assumes nothing.
-use mathlib.Core.Path.{refl, sym, subst}
-use Prim.Native.Nat.{ℕ}
+-- finite, Q15 takes each of them and none saturates. So both totals stand for it with no premise left, and the mirror
+-- and a zero of a half-band. Assumes nothing.
+use mathlib.Core.Path.{_≡_, refl, sym, _∙_, subst}
+use Prim.Native.Nat.{ℕ, _-_, _*_, _/_, _%_, _<_}
+use native.Mathlib.Omega.{arith}
 use mathlib.Core.Bool.{Bool, true, false, _&&_}
 use mathlib.Core.List.{List, [], _∷_}
-use lib.Dec.{T}
+use lib.Dec.{T, eqb}
+use lib.ListN.{length, take, drop}
 use lib.Ieee.{Float, ofBits, ofInt, round, add, sub, mul, div, lt, le, ne, toUnsigned}
 use lib.Ieee.Fits.{and-l, and-r}
 use lib.Ieee.Scale.{finite}
@@ -13,7 +16,7 @@ use Rattle.laws.specs.Filled.{tabulate}
 use Rattle.laws.specs.Floor.{floorZ, ceilZ}
 use Rattle.laws.specs.SumError.{Each}
 use Rattle.laws.specs.Sums.{sumTo}
-use Rattle.wire.specs.Bytes.{floatsIn}
+use Rattle.wire.specs.Bytes.{floatAt, floatsIn}
 use Rattle.wire.specs.Read.{floats-back}
 use Rattle.verdict.specs.Report.{acceptedOf}
 use Rattle.verdict.specs.declared.Report.{Report}
@@ -33,6 +36,8 @@ use Rattle.fir_spec.specs.Spec.{specOrderOf, specDesignOf}
 use Rattle.fir_halfband.specs.Halfband as Halfband
 use Rattle.fir_gaussian.specs.Gaussian as Gaussian
 use Rattle.fir_channelizer.specs.Channelizer as Channelizer
+use Rattle.c_formats.specs.declared.element.Format.the-variants.{Q15}
+use Rattle.c_formats.specs.Conversions.{ConvertsBytes}
 use Rattle.c_lowpass.specs.Codes.{windowOf}
 use Rattle.c_lowpass.specs.Lowpass.{lowpassBytes}
 use Rattle.c_lowpass.specs.Prototype.{channelizerBytes}
@@ -40,10 +45,18 @@ use Rattle.c_pulses.specs.Buffers.{halfbandBytes, gaussianBytes}
 use Rattle.c_lowpass.specs.Spec.{specBytes, specOf}
 use Rattle.verdict.specs.Reports.{outcomeReport}
 use Rattle.wire.specs.Bytes.{floatBytes}
-use Rattle.wire.specs.Writes.{written}
-use Rattle.promise_totals.specs.Bounds.{unsaturated}
-use Rattle.promise_totals.specs.Sound.{Sound}
-use Rattle.promise_totals.specs.Written.{Accepted, divisorIn, tapsIn}
+use Rattle.wire.specs.Writes.{Writes, written}
+use Rattle.verdict.specs.Counted.{Counted}
+use Rattle.laws.specs.Cases.{either-way}
+use Rattle.fir_halfband.specs.Halfband.{distance}
+use Rattle.fir_halfband.specs.HalfbandLaws.{halfband-count}
+use Rattle.fir_halfband.specs.Mirror.{IsZero}
+use Rattle.promise_totals.specs.Bounds.{TapTotal, Q15Total, unsaturated}
+use Rattle.promise_totals.specs.Sound.{Sound, lowpass-bytes-sound, spec-bytes-sound, halfband-bytes-sound, gaussian-bytes-sound, channelizer-bytes-sound}
+use Rattle.promise_totals.specs.Written.{Accepted, divisorIn, tapsIn, Totals, lowpass-written, spec-written, halfband-written, gaussian-written, channelizer-written}
+use Rattle.promise_totals.specs.Mirror.{halfband-mirrored, halfband-zeros}
+use Rattle.promise_totals.specs.ReadCodes.{codesIn}
+use Rattle.promise_totals.specs.Filter.{FilterTotal, WholeTaps, whole-taps, filter-total, conversion-accepted}
 
 -- ---- the premises
 pub record Premises (r : Report) (after : List ℕ) : Type 0 where
@@ -83,28 +96,132 @@ met-premises (Outcome.Designed n divisor tap) before (taps, fit) h =
     record { accepted = refl; divisor = p .0; finites = read finite (q .0); taken = read takes (s .0); within = read unsaturated (s .1) }
 met-premises (Outcome.Refused why) before numbered h = absurd h
 
--- ---- a ticket of each kind
--- Hann's window, cutoff 0.25 at the rate 1, 5 taps
-pub lowpass-met : T (met (lowpassBytes (fraction 1 4) (whole 1) (windowOf 0 (whole 0)) 40))
+-- ---- with no premise left: what an export that does as o answers and leaves in a buffer
+pub record Stands (o : Outcome) (before : List ℕ) : Type 0 where
+  pub taps : TapTotal (tapsIn (outcomeReport o) (written floatBytes o before))
+  pub codes : Q15Total (tapsIn (outcomeReport o) (written floatBytes o before))
+  -- `pel_to_q15` accepts these bytes for a destination of two bytes a tap, and what is read there has the total
+  pub filter : (out codes : List ℕ) (c : Report) → length out ≡ 2 * outcomeReport o .count → ConvertsBytes Q15 1 (written floatBytes o before) out c codes → Accepted c × FilterTotal (tapsIn (outcomeReport o) (written floatBytes o before)) (codesIn (outcomeReport o .count) codes)
+
+-- what such an export answers and leaves is what it answers and leaves
+itself : {o : Outcome} {before : List ℕ} → Writes floatBytes o before (outcomeReport o) (written floatBytes o before)
+itself = record { answer = refl; buffer = refl }
+
+stands : (o : Outcome) (before : List ℕ) → Sound o → T (met o) → Totals (outcomeReport o) (written floatBytes o before) → Stands o before
+stands o before s m t =
+    let p = met-premises o before s m in
+    let whole : WholeTaps (outcomeReport o) (written floatBytes o before) = whole-taps s (itself {o = o} {before = before}) in
+    record {
+      taps = t .taps (p .accepted) (p .divisor) (p .finites);
+      codes = t .codes (p .accepted) (p .divisor) (p .finites) (p .taken) (p .within);
+      filter = λ out codes c room v.
+          let accepted = conversion-accepted (outcomeReport o .count) (written floatBytes o before) out codes c v (whole (p .accepted)) room (p .taken) in
+          (accepted, filter-total t whole v .total (p .accepted) accepted (p .divisor) (p .within));
+    }
+
+-- the same ticket with another buffer of as many bytes
+of-size : (made : ℕ → Outcome) (len : ℕ) (before : List ℕ) → length before ≡ len → T (met (made len)) → T (met (made (length before)))
+of-size made len before e m = subst (λ (k : ℕ). T (met (made k))) (sym e) m
+
+-- a ticket that meets them has as many taps as were asked for
+counted : (o : Outcome) (n : ℕ) → T (met o) → Counted n o → outcomeReport o .count ≡ n
+unfolding met acceptedOf
+counted (Outcome.Designed m divisor tap) n h e = e
+counted (Outcome.Refused why) n h e = absurd h
+
+-- ---- a ticket of each kind, for a buffer of so many bytes
+-- Hann's window, cutoff 0.25 at the rate 1: in 40 bytes 5 taps
+abbrev pub lowpassTicket : ℕ → Outcome
+lowpassTicket len = lowpassBytes (fraction 1 4) (whole 1) (windowOf 0 (whole 0)) len
+
+pub lowpass-met : T (met (lowpassTicket 40))
 unfolding met all tabulate takes moved windowOf Lowpass.lowpassOf Lowpass.tapOf windowAt normOf sinOf cosOf sumTo fact over positive floorOf absOf asFloat floorZ ofBits ofInt round add sub mul div lt le ne
 lowpass-met = tt
 
--- beta 0, 3 taps
-pub halfband-met : T (met (halfbandBytes (whole 0) 24))
-unfolding met all tabulate takes moved Halfband.halfbandOf Halfband.divisorOf Halfband.tapOf Lowpass.lowpassOf Lowpass.tapWith windowAt normOf seriesOf sqrtOf sinOf sumTo fact over positive floorOf absOf asFloat floorZ ofBits ofInt round add sub mul div lt le ne
-halfband-met = tt
+pub lowpass-stands : (before : List ℕ) → length before ≡ 40 → Stands (lowpassTicket (length before)) before
+lowpass-stands before e =
+    stands _ before (lowpass-bytes-sound (fraction 1 4) (whole 1) (windowOf 0 (whole 0)) (length before)) (of-size lowpassTicket 40 before e lowpass-met)
+    (lowpass-written (fraction 1 4) (whole 1) 0 (whole 0) before _ _ itself)
 
--- bt 0.5, 2 samples a symbol, 2 symbols: 5 taps
-pub gaussian-met : T (met (gaussianBytes (fraction 1 2) 2 2 40))
-unfolding met all tabulate takes moved Gaussian.gaussianOf Gaussian.tapOf expOf sumTo fact over floorOf absOf asFloat floorZ ofBits ofInt round add sub mul div lt le
-gaussian-met = tt
+-- cutoff 0.25, transition 0.5, 8 dB at the rate 1, at most 3 taps: in 24 bytes 3 taps, beta 0
+abbrev pub specTicket : ℕ → Outcome
+specTicket len = specBytes (specOf (fraction 1 4) (fraction 1 2) (whole 8)) (whole 1) 3 len
 
--- cutoff 0.25, transition 0.5, 8 dB at the rate 1, at most 3 taps: 3 taps, beta 0
-pub spec-met : T (met (specBytes (specOf (fraction 1 4) (fraction 1 2) (whole 8)) (whole 1) 3 24))
+pub spec-met : T (met (specTicket 24))
 unfolding met all tabulate takes moved specDesignOf specOrderOf orderOf betaOf Lowpass.lowpassOf Lowpass.tapOf windowAt normOf seriesOf sqrtOf sinOf sumTo fact over positive floorOf ceilOf absOf asFloat floorZ ceilZ toUnsigned ofBits ofInt round add sub mul div lt le ne
 spec-met = tt
 
--- 4 channels, 4 taps a branch, passband 0.5, stopband 1, 20 dB: 16 taps, beta 0
-pub channelizer-met : T (met (channelizerBytes 4 4 (fraction 1 2) (whole 1) (whole 20) 128))
+pub spec-stands : (before : List ℕ) → length before ≡ 24 → Stands (specTicket (length before)) before
+spec-stands before e =
+    stands _ before (spec-bytes-sound (specOf (fraction 1 4) (fraction 1 2) (whole 8)) (whole 1) 3 (length before)) (of-size specTicket 24 before e spec-met)
+    (spec-written (specOf (fraction 1 4) (fraction 1 2) (whole 8)) (whole 1) 3 before _ _ itself)
+
+-- bt 0.5, 2 samples a symbol, 2 symbols: in 40 bytes 5 taps
+abbrev pub gaussianTicket : ℕ → Outcome
+gaussianTicket len = gaussianBytes (fraction 1 2) 2 2 len
+
+pub gaussian-met : T (met (gaussianTicket 40))
+unfolding met all tabulate takes moved Gaussian.gaussianOf Gaussian.tapOf expOf sumTo fact over floorOf absOf asFloat floorZ ofBits ofInt round add sub mul div lt le
+gaussian-met = tt
+
+pub gaussian-stands : (before : List ℕ) → length before ≡ 40 → Stands (gaussianTicket (length before)) before
+gaussian-stands before e =
+    stands _ before (gaussian-bytes-sound (fraction 1 2) 2 2 (length before)) (of-size gaussianTicket 40 before e gaussian-met)
+    (gaussian-written (fraction 1 2) 2 2 before _ _ itself)
+
+-- 4 channels, 4 taps a branch, passband 0.5, stopband 1, 20 dB: in 128 bytes 16 taps, beta 0
+abbrev pub channelizerTicket : ℕ → Outcome
+channelizerTicket len = channelizerBytes 4 4 (fraction 1 2) (whole 1) (whole 20) len
+
+pub channelizer-met : T (met (channelizerTicket 128))
 unfolding met all tabulate takes moved Channelizer.channelizerLowpassOf betaOf Lowpass.lowpassOf Lowpass.tapOf windowAt normOf seriesOf sqrtOf sinOf sumTo fact over positive floorOf absOf asFloat floorZ ofBits ofInt round add sub mul div lt le ne
 channelizer-met = tt
+
+pub channelizer-stands : (before : List ℕ) → length before ≡ 128 → Stands (channelizerTicket (length before)) before
+channelizer-stands before e =
+    stands _ before (channelizer-bytes-sound 4 4 (fraction 1 2) (whole 1) (whole 20) (length before)) (of-size channelizerTicket 128 before e channelizer-met)
+    (channelizer-written 4 4 (fraction 1 2) (whole 1) (whole 20) before _ _ itself)
+
+-- beta 0: in 56 bytes 7 taps, of which index 3 is the middle and indices 1 and 5 are at the distance 2 from it
+abbrev pub halfbandTicket : ℕ → Outcome
+halfbandTicket len = halfbandBytes (whole 0) len
+
+pub halfband-met : T (met (halfbandTicket 56))
+unfolding met all tabulate takes moved Halfband.halfbandOf Halfband.divisorOf Halfband.tapOf Lowpass.lowpassOf Lowpass.tapWith windowAt normOf seriesOf sqrtOf sinOf sumTo fact over positive floorOf absOf asFloat floorZ ofBits ofInt round add sub mul div lt le ne
+halfband-met = tt
+
+module _ (before : List ℕ) (e : length before ≡ 56) where
+  abbrev answer : Report
+  answer = outcomeReport (halfbandTicket (length before))
+
+  abbrev left : List ℕ
+  left = written floatBytes (halfbandTicket (length before)) before
+
+  halfband-meets : T (met (halfbandTicket (length before)))
+  halfband-meets = of-size halfbandTicket 56 before e halfband-met
+
+  accepted : Accepted answer
+  accepted = met-premises _ before (halfband-bytes-sound (whole 0) (length before)) halfband-meets .accepted
+
+  seven : answer .count ≡ 7
+  seven =
+      let n = length before / 8 in
+      let count : Counted n (halfbandTicket (length before)) = either-way (Counted n) (eqb (length before % 8) 0) (Halfband.outcomeOf (Halfband.halfbandOf (whole 0) n)) (Outcome.Refused _) (halfband-count (whole 0) n) tt in
+      let k : n ≡ 7 = omega arith in
+      counted _ n halfband-meets count ∙ k
+
+  pub halfband-stands : Stands (halfbandTicket (length before)) before
+  halfband-stands = stands _ before (halfband-bytes-sound (whole 0) (length before)) halfband-meets (halfband-written (whole 0) before left answer itself)
+
+  -- tap i and its mirror image, index 6 − i, are the same eight bytes
+  pub halfband-mirror-stands : (i : ℕ) → i < 7 → take 8 (drop (8 * i) left) ≡ take 8 (drop (8 * (6 - i)) left)
+  halfband-mirror-stands i h =
+      subst (λ (n : ℕ). take 8 (drop (8 * i) left) ≡ take 8 (drop (8 * (n - 1 - i)) left)) seven
+      (halfband-mirrored (whole 0) before left answer itself accepted i (omega (arith, seven)))
+
+  -- a tap at an even distance but 0: there is one, index 1, and it is zero
+  pub halfband-zero-stands : IsZero (floatAt left (8 * 1))
+  halfband-zero-stands =
+      halfband-zeros (whole 0) before left answer itself accepted 1 (omega (arith, seven))
+      (subst (λ (n : ℕ). distance n 1 % 2 ≡ 0) (sym seven) refl)
+      (λ z. let none : distance 7 1 ≡ 0 = subst (λ (n : ℕ). distance n 1 ≡ 0) seven z in omega (arith, none))

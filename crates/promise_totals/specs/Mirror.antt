@@ -29,16 +29,16 @@ use Rattle.promise_totals.specs.Sound.{Sound, halfband-bytes-sound}
 use Rattle.promise_totals.specs.Written.{by-writes}
 use Rattle.laws.specs.Cases.{either-way}
 
--- ---- the taps
-record Symmetric (n : ℕ) (tap : ℕ → Float) : Type 0 where
-  mirrored : (i : ℕ) → i < n → tap i ≡ tap (n - 1 - i)
-  zeros : (i : ℕ) → i < n → distance n i % 2 ≡ 0 → (distance n i ≡ 0 → ⊥) → IsZero (tap i)
+-- ---- the taps, wherever they are put
+pub record Symmetric (n : ℕ) (tap : ℕ → Float) : Type 0 where
+  pub mirrored : (i : ℕ) → i < n → tap i ≡ tap (n - 1 - i)
+  pub zeros : (i : ℕ) → i < n → distance n i % 2 ≡ 0 → (distance n i ≡ 0 → ⊥) → IsZero (tap i)
 
-abbrev WhereMade : Outcome → Type 0
+abbrev pub WhereMade : Outcome → Type 0
 WhereMade (Outcome.Designed n divisor tap) = Symmetric n tap
 WhereMade (Outcome.Refused why) = Unit {0}
 
-halfband-symmetric : (beta : Float) (n : ℕ) → WhereMade (outcomeOf (halfbandOf beta n))
+pub halfband-symmetric : (beta : Float) (n : ℕ) → WhereMade (outcomeOf (halfbandOf beta n))
 halfband-symmetric beta n = go (halfbandOf beta n) refl
   where
     go : (d : HalfbandDesigned) → halfbandOf beta n ≡ d → WhereMade (outcomeOf d)

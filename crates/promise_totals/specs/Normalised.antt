@@ -110,6 +110,11 @@ moved-finite t h =
     at-most-finite (moved t) 65537 1
     (add-at-most binary64 (mul binary64 t (whole 32768)) (fraction 1 2) 65536 1 1 2 65537 1 (lit≤ tt) (lit≤ tt) (lit≤ tt) (round-whole binary64 false 65537 (lit≤ tt)) (lit≤ tt) a half)
 
+-- so what is taken is finite
+pub taken-finite : (ts : List Float) → Each takes ts → Each finite ts
+taken-finite [] a = tt
+taken-finite (t ∷ ts) a = (at-most-finite t 2274248405150597 2251799813685248 (within-limit t (a .0)), taken-finite ts (a .1))
+
 -- the two ways to write 32768 t + 0.5
 moved-is : (t : Float) → moved t ≡ Codes.moved binary64 t
 unfolding moved ofInt round
@@ -171,3 +176,13 @@ module _ {n : ℕ} {divisor : Float} {tap : ℕ → Float} (N : Normalised n div
         rw (numbers-are (tabulate n tap) a b)
         (subst CodeTotal taps-are
         (q15-total-list (tabulate n (N .raw)) (rw count-is (N .some)) (rw count-is (N .most)) (each-tabulate (fits binary64) n (N .raw) (N .fit)) sum-finite (subst (λ (z : List Float). Each finite z) (sym taps-are) finite-taps) (subst (λ (z : List Float). Each (Codes.coded binary64) z) (sym taps-are) (have-codes (tabulate n tap) a b))))
+
+-- ---- demand 3 of a list of taps and its last divisor, wherever the list stands
+pub record Promised (divisor : Float) (ts : List Float) : Type 0 where
+  -- "the exact sum of the taps differs from 1 by at most n (1 + A)/2^52"
+  pub taps : T (finite divisor) → Each finite ts → TapTotal ts
+  -- "the Q15 sum differs from 32768 by at most n (1/2 + (1 + A)/2^37)"; a tap that Q15 takes is finite
+  pub codes : T (finite divisor) → Each takes ts → Each unsaturated ts → Q15Total ts
+
+pub normalised-promised : {n : ℕ} {divisor : Float} {tap : ℕ → Float} → Normalised n divisor tap → Promised divisor (tabulate n tap)
+normalised-promised {n} {divisor} {tap} N = record { taps = tap-total N; codes = λ t a b. q15-total N t (taken-finite (tabulate n tap) a) a b }
