@@ -7,3 +7,4 @@ pub mod filters;
 pub mod judgements;
 pub mod lengths;
 pub mod samples;
+pub mod slices;

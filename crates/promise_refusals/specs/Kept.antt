@@ -1,5 +1,5 @@
 -- Demand 1 from what an export ensures: of a design that writes its elements, and of a conversion. Assumes nothing.
-use Prim.Native.Nat.{ℕ, _*_, _/_, _%_, _<_, _≤_}
+use Prim.Native.Nat.{ℕ, suc, _*_, _/_, _%_, _<_, _≤_}
 use mathlib.Core.Path.{_≡_, refl, sym, ap, _∙_, subst}
 use mathlib.Core.Bool.{Bool, true, false, cond}
 use mathlib.Core.List.{List, [], _∷_}
@@ -14,7 +14,8 @@ use lib.Ieee.{Float, nan}
 use Rattle.laws.specs.Cases.{either, either-way}
 use Rattle.laws.specs.Chunks.{chunks, chunked, chunks-below, length-chunks, chunk-all}
 use Rattle.laws.specs.Filled.{getD-tabulate}
-use Rattle.laws.specs.Prefix.{firstBad, bad-le, bad-fails, good-before}
+use Rattle.laws.specs.Prefix.{oneMore, firstBad, bad-le, bad-fails, good-before}
+use Rattle.laws.specs.SumError.{Each}
 use Rattle.verdict.specs.Numbers.{badLength, badElement}
 use Rattle.verdict.specs.Report.{reportOf, acceptedOf}
 use Rattle.verdict.specs.Reports.{outcomeReport, doneReport}
@@ -59,6 +60,22 @@ filled-or-kept {bytes} {o} {before} {after} {r} l w size =
     }
 
 -- ---- a conversion: it ends in one of three ways
+-- what an accepted one tells: each f64 of its source is taken, and its bytes are those of every element, the first one
+-- first
+pub record Converted (f : Format) (s after : List ℕ) : Type 0 where
+  pub taken : Each (takesOf f) (floats s)
+  pub bytes : after ≡ chunks (length s / 8) (λ i. bytesIn f (elementAt s i))
+
+-- where no element is the first that isn't taken, each one is
+all-taken : (p : Float → Bool) (l : List Float) → firstBad p l ≡ length l → Each p l
+unfolding firstBad
+all-taken p [] e = tt
+all-taken p (x ∷ l) e = go (p x) refl e (all-taken p l)
+  where
+    go : (b : Bool) → p x ≡ b → oneMore b (firstBad p l) ≡ suc (length l) → (firstBad p l ≡ length l → Each p l) → T (p x) × Each p l
+    go true h e rest = (subst T (sym h) tt, rest (omega (arith, e)))
+    go false h e rest = absurd (omega (arith, e))
+
 -- a refusal of its lengths has their number
 abbrev ByLength : Verdict → Type 0
 ByLength Done = Unit {0}
@@ -168,6 +185,9 @@ module _ {f : Format} {g : ℕ} {s before : List ℕ} {r : Report} {after : List
         front = ap (take (widthOf f * bad)) (front-is (p .fit)) ∙ take-at (chunks bad chunk) (drop (widthOf f * bad) before) (widthOf f * bad) (length-chunks (widthOf f) chunk width bad) ∙ chunks-are bad (omega (arith, p .some));
         rest = ap (drop (widthOf f * bad)) (front-is (p .fit)) ∙ drop-at (chunks bad chunk) (drop (widthOf f * bad) before) (widthOf f * bad) (length-chunks (widthOf f) chunk width bad);
       })
+
+  pub accepted-conversion : r .number ≡ 0 → Converted f s after
+  accepted-conversion e = either ends (λ u. absurd (omega (arith, e, u .number))) (λ t. either t (λ w. record { taken = all-taken (takesOf f) (floats s) (w .all ∙ sym (count s)); bytes = all-converted w }) (λ p. absurd (omega (arith, e, p .number))))
 
   pub converted-or-kept : length after ≡ length before → ConvertedOrKept f g s before r after
   converted-or-kept size =

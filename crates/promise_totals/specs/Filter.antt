@@ -19,7 +19,7 @@ use Rattle.laws.specs.Filled.{tabulate}
 use Rattle.laws.specs.Prefix.{oneMore, firstBad}
 use Rattle.laws.specs.SumError.{Each}
 use Rattle.laws.specs.Totals.{sumZ}
-use Rattle.wire.specs.Bytes.{twosOf, floatBytes, floatAt, floatsIn, codeBytes}
+use Rattle.wire.specs.Bytes.{twosOf, floatBytes, floatAt, floatsIn, codeBytes, codesIn}
 use Rattle.wire.specs.Laws.{length-bytes}
 use Rattle.wire.specs.Writes.{Writes, written}
 use Rattle.verdict.specs.Report.{acceptedOf}
@@ -42,12 +42,12 @@ use Rattle.c_lowpass.specs.Lowpass.{lowpassBytes}
 use Rattle.c_lowpass.specs.Prototype.{channelizerBytes}
 use Rattle.c_lowpass.specs.Spec.{specBytes}
 use Rattle.c_pulses.specs.Buffers.{halfbandBytes, gaussianBytes}
+use Rattle.promise_refusals.specs.Kept.{Converted, accepted-conversion}
 use Rattle.promise_totals.specs.Bounds.{sizes, unsaturated}
 use Rattle.promise_totals.specs.Normalised.{taken-finite}
 use Rattle.promise_totals.specs.Sound.{Sound, lowpass-bytes-sound, spec-bytes-sound, halfband-bytes-sound, gaussian-bytes-sound, channelizer-bytes-sound}
 use Rattle.promise_totals.specs.Written.{Accepted, divisorIn, tapsIn, Totals, by-writes, lowpass-written, spec-written, halfband-written, gaussian-written, channelizer-written}
-use Rattle.promise_totals.specs.ReadCodes.{codesIn, codes-back, q15-fits}
-use Rattle.promise_totals.specs.Chain.{Converted, accepted-conversion}
+use Rattle.promise_totals.specs.ReadCodes.{codes-back, q15-fits}
 
 -- ---- the statement
 -- the exact sum of whole numbers
@@ -77,9 +77,9 @@ record InQ15 (s codes : List ℕ) (n : ℕ) : Type 0 where
   taken : Each takes (floatsIn n s)
   numbers : codesIn n codes ≡ tabulate n (λ i. q15Of (floatAt s (8 * i)))
 
-of-converted : (s codes : List ℕ) (c : Report) → Converted Q15 s c codes → InQ15 s codes (length s / 8)
+of-converted : (s codes : List ℕ) → Converted Q15 s codes → InQ15 s codes (length s / 8)
 unfolding widthOf takesOf patternOf
-of-converted s codes c k =
+of-converted s codes k =
     let n = length s / 8 in
     let number : ℕ → ℤ = λ i. q15Of (floatAt s (8 * i)) in
     record {
@@ -100,7 +100,7 @@ WholeTaps r after = Accepted r → length after ≡ 8 * r .count
 made : (r c : Report) (taps out codes : List ℕ) → WholeTaps r taps → ConvertsBytes Q15 1 taps out c codes → Accepted r → Accepted c → InQ15 taps codes (r .count)
 made r c taps out codes whole v a b =
     let n : length taps / 8 ≡ r .count = omega (arith, whole a) in
-    subst (InQ15 taps codes) n (of-converted taps codes c (accepted-conversion Q15 1 taps out codes c v b))
+    subst (InQ15 taps codes) n (of-converted taps codes (accepted-conversion v b))
 
 pub filter-total : {r c : Report} {taps out codes : List ℕ} → Totals r taps → WholeTaps r taps → ConvertsBytes Q15 1 taps out c codes → Filters r taps c codes
 filter-total {r} {c} {taps} {out} {codes} t whole v = record {

@@ -5,7 +5,6 @@ pub mod Sound
 pub mod Written
 pub mod Mirror
 pub mod Met
-pub mod Chain
 pub mod Conversions
 pub mod ReadCodes
 pub mod Filter

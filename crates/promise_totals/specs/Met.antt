@@ -16,7 +16,7 @@ use Rattle.laws.specs.Filled.{tabulate}
 use Rattle.laws.specs.Floor.{floorZ, ceilZ}
 use Rattle.laws.specs.SumError.{Each}
 use Rattle.laws.specs.Sums.{sumTo}
-use Rattle.wire.specs.Bytes.{floatAt, floatsIn}
+use Rattle.wire.specs.Bytes.{floatBytes, floatAt, floatsIn, codesIn}
 use Rattle.wire.specs.Read.{floats-back}
 use Rattle.verdict.specs.Report.{acceptedOf}
 use Rattle.verdict.specs.declared.Report.{Report}
@@ -44,7 +44,6 @@ use Rattle.c_lowpass.specs.Prototype.{channelizerBytes}
 use Rattle.c_pulses.specs.Buffers.{halfbandBytes, gaussianBytes}
 use Rattle.c_lowpass.specs.Spec.{specBytes, specOf}
 use Rattle.verdict.specs.Reports.{outcomeReport}
-use Rattle.wire.specs.Bytes.{floatBytes}
 use Rattle.wire.specs.Writes.{Writes, written}
 use Rattle.verdict.specs.Counted.{Counted}
 use Rattle.laws.specs.Cases.{either-way}
@@ -55,7 +54,6 @@ use Rattle.promise_totals.specs.Bounds.{TapTotal, Q15Total, unsaturated}
 use Rattle.promise_totals.specs.Sound.{Sound, lowpass-bytes-sound, spec-bytes-sound, halfband-bytes-sound, gaussian-bytes-sound, channelizer-bytes-sound}
 use Rattle.promise_totals.specs.Written.{Accepted, divisorIn, tapsIn, Totals, lowpass-written, spec-written, halfband-written, gaussian-written, channelizer-written}
 use Rattle.promise_totals.specs.Mirror.{halfband-mirrored, halfband-zeros}
-use Rattle.promise_totals.specs.ReadCodes.{codesIn}
 use Rattle.promise_totals.specs.Filter.{FilterTotal, WholeTaps, whole-taps, filter-total, conversion-accepted}
 
 -- ---- the premises

@@ -14,25 +14,10 @@ use lib.Ieee.{Float, nan, inf, fin}
 use Rattle.laws.specs.Chunks.{chunks}
 use Rattle.laws.specs.Filled.{tabulate, tabulate-below}
 use Rattle.laws.specs.Floor.{floorZ}
-use Rattle.wire.specs.Bytes.{twosOf, codeBytes, numberOf}
+use Rattle.wire.specs.Bytes.{twosOf, codeBytes, signedOf, codeOf, codesIn}
 use Rattle.wire.specs.Laws.{length-bytes}
 use Rattle.wire.specs.Read.{number-bytes, chunk-at}
 use Rattle.fmt_q15.specs.Q15.{moved, saturated, in16, codeIn, q15Of}
-
--- ---- what bytes hold, the lowest first
--- the signed number in 16 bits, two's complement: from 32768 on n stands for n − 65536, `negsuc k` being −(k + 1)
-abbrev pub signedOf : ℕ → ℤ
-signedOf n = cond (ltb n 32768) (pos n) (negsuc (65535 - n))
-
--- the one in two bytes, and the n of a buffer
-abbrev pub codeOf : List ℕ → ℤ
-codeOf bs = signedOf (numberOf bs)
-
-abbrev pub codeAt : List ℕ → ℕ → ℤ
-codeAt d at = codeOf (take 2 (drop at d))
-
-abbrev pub codesIn : ℕ → List ℕ → List ℤ
-codesIn n d = tabulate n (λ i. codeAt d (2 * i))
 
 -- ---- reading gives back what was written
 signed-twos : (q : ℤ) → in16 q ≡ true → signedOf (twosOf q) ≡ q

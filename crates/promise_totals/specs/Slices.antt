@@ -1,23 +1,19 @@
 -- Demand 3 of the taps that a design leaves in a slice of f64s, and the mirror and the zeros of a half-band there, for
 -- every ticket and every length of the slice: one law from `Fills`. Assumes nothing.
 use mathlib.Core.Path.{_≡_, refl, sym, ap, _∙_, subst}
-use mathlib.Core.Bool.{Bool, cond}
 use mathlib.Core.List.{List}
-use Prim.Native.Nat.{ℕ, _-_, _*_, _/_, _%_, _<_}
+use Prim.Native.Nat.{ℕ, _-_, _%_, _<_}
 use native.Mathlib.Omega.{arith}
-use borrow.Author.Tests.{eq-eqb}
 use lib.Dec.{T}
 use lib.ListN.{length, getD}
 use lib.Ieee.{Float, nan}
 use lib.Ieee.Scale.{finite}
 use Rattle.laws.specs.Filled.{tabulate, tabulate-below, length-tabulate, getD-tabulate}
 use Rattle.laws.specs.SumError.{Each}
-use Rattle.wire.specs.Writes.{wholeTaps}
 use Rattle.verdict.specs.Counted.{Counted}
 use Rattle.verdict.specs.Outcome.{Outcome, Fills}
 use Rattle.verdict.specs.Outcome as Outcome
 use Rattle.verdict.specs.declared.Refusal.{Refusal}
-use Rattle.verdict.specs.declared.Refusal.the-variants.{Length}
 use Rattle.verdict.specs.declared.Verdict.{Verdict}
 use Rattle.verdict.specs.declared.Verdict.the-variants as Verdict
 use Rattle.fmt_q15.specs.Q15.{takes}
@@ -36,10 +32,9 @@ use Rattle.fir_gaussian.specs.GaussianLaws.{gaussian-count}
 use Rattle.fir_channelizer.specs.Channelizer as Channelizer
 use Rattle.fir_channelizer.specs.ChannelizerLaws.{channelizer-count}
 use Rattle.ticket_slices.specs.Agree.{Agrees, agree}
-use Rattle.c_lowpass.specs.declared.codes.Coded.the-variants.{Known}
 use Rattle.promise_totals.specs.Bounds.{TapTotal, Q15Total, unsaturated}
 use Rattle.promise_totals.specs.Normalised.{Promised, normalised-promised}
-use Rattle.promise_totals.specs.Sound.{Sound, lowpass-bytes-sound, spec-bytes-sound, halfband-bytes-sound, gaussian-bytes-sound, channelizer-bytes-sound}
+use Rattle.promise_totals.specs.Sound.{Made, lowpass-made, spec-made, halfband-made, gaussian-made, channelizer-made}
 use Rattle.promise_totals.specs.Mirror.{WhereMade, halfband-symmetric}
 
 -- ---- the statements, of a function's answer r and of its slice afterwards
@@ -80,11 +75,11 @@ module _ {before after : List Float} {r : Verdict} where
   taps-are : (n : ℕ) (divisor : Float) (tap : ℕ → Float) → n ≡ length before → Fills (Outcome.Designed n divisor tap) before r after → after ≡ tabulate n tap
   taps-are n divisor tap e f = f .buffer ∙ ap (λ (m : ℕ). tabulate m tap) (sym e)
 
-  pub of-fills : (o : Outcome) → Sound o → Counted (length before) o → Fills o before r after → SliceTotals o r after
+  pub of-fills : (o : Outcome) → Made o → Counted (length before) o → Fills o before r after → SliceTotals o r after
   of-fills (Outcome.Designed n divisor tap) (taps, fit) e f =
       let p = subst (Promised divisor) (sym (taps-are n divisor tap e f)) (normalised-promised taps) in
       record { taps = λ a. p .taps; codes = λ a. p .codes }
-  of-fills (Outcome.Refused why) numbered e f = record { taps = λ a. never why (sym (f .answer) ∙ a); codes = λ a. never why (sym (f .answer) ∙ a) }
+  of-fills (Outcome.Refused why) made e f = record { taps = λ a. never why (sym (f .answer) ∙ a); codes = λ a. never why (sym (f .answer) ∙ a) }
 
   pub of-symmetric : (o : Outcome) → WhereMade o → Counted (length before) o → Fills o before r after → SliceMirrors r after
   of-symmetric (Outcome.Designed n divisor tap) s e f = subst (SliceMirrors r) (sym (taps-are n divisor tap e f)) (record { mirrored = λ a. mirrored; zeros = λ a. zeros })
@@ -116,32 +111,23 @@ module _ {before after : List Float} {r : Verdict} where
   fills-agreed (Outcome.Refused why) (Outcome.Designed m u v) a e f = absurd a
   fills-agreed (Outcome.Refused why) (Outcome.Refused other) a e f = record { answer = f .answer ∙ ap Verdict.Refused a; buffer = f .buffer }
 
--- what is sound for every buffer of bytes is so for every number of taps
-any-count : (made : ℕ → Outcome) → ((len : ℕ) → Sound (wholeTaps len (made (len / 8)))) → (n : ℕ) → Sound (made n)
-any-count made sound n =
-    let whole : 8 * n % 8 ≡ 0 = omega arith in
-    let count : 8 * n / 8 ≡ n = omega arith in
-    subst Sound (ap (λ (b : Bool). cond b (made (8 * n / 8)) (Outcome.Refused (Length (8 * n - 8 * n % 8) (8 * n)))) (eq-eqb (8 * n % 8) 0 whole) ∙ ap made count) (sound (8 * n))
-
 -- ---- of each function; `Fills` is what it ensures
 module _ {before after : List Float} {r : Verdict} where
   -- `firwin_lowpass`
   pub lowpass-filled : (cutoff rate : Float) (w : Window) → Fills (Lowpass.outcomeOf (Lowpass.lowpassOf cutoff rate w (length before))) before r after → SliceTotals (Lowpass.outcomeOf (Lowpass.lowpassOf cutoff rate w (length before))) r after
-  lowpass-filled cutoff rate w = of-fills _ (any-count (λ n. Lowpass.outcomeOf (Lowpass.lowpassOf cutoff rate w n)) (lowpass-bytes-sound cutoff rate (Known w)) (length before)) (lowpass-count cutoff rate w (length before))
+  lowpass-filled cutoff rate w = of-fills _ (lowpass-made cutoff rate w (length before)) (lowpass-count cutoff rate w (length before))
 
   -- `design` of a specification
   pub spec-filled : (spec : DesignSpec) (rate : Float) (m : ℕ) → Fills (Lowpass.outcomeOf (specDesignOf spec rate m (length before))) before r after → SliceTotals (Lowpass.outcomeOf (specDesignOf spec rate m (length before))) r after
-  spec-filled spec rate m = of-fills _ (any-count (λ n. Lowpass.outcomeOf (specDesignOf spec rate m n)) (spec-bytes-sound spec rate m) (length before)) (spec-count spec rate m (length before))
+  spec-filled spec rate m = of-fills _ (spec-made spec rate m (length before)) (spec-count spec rate m (length before))
 
   -- `gaussian`
   pub gaussian-filled : (bt : Float) (sps span : ℕ) → Fills (Gaussian.outcomeOf (Gaussian.fittedOf (Gaussian.gaussianOf bt sps span) (length before))) before r after → SliceTotals (Gaussian.outcomeOf (Gaussian.fittedOf (Gaussian.gaussianOf bt sps span) (length before))) r after
-  gaussian-filled bt sps span = of-fills _ (any-count (λ n. Gaussian.outcomeOf (Gaussian.fittedOf (Gaussian.gaussianOf bt sps span) n)) (gaussian-bytes-sound bt sps span) (length before)) (gaussian-count (Gaussian.gaussianOf bt sps span) (length before))
+  gaussian-filled bt sps span = of-fills _ (gaussian-made bt sps span (length before)) (gaussian-count (Gaussian.gaussianOf bt sps span) (length before))
 
   -- `channelizer_prototype`
   pub channelizer-filled : (channels branch : ℕ) (passband stopband attenuation : Float) → Fills (Lowpass.outcomeOf (Channelizer.fittedOf (Channelizer.channelizerLowpassOf channels branch passband stopband attenuation) (length before))) before r after → SliceTotals (Lowpass.outcomeOf (Channelizer.fittedOf (Channelizer.channelizerLowpassOf channels branch passband stopband attenuation) (length before))) r after
-  channelizer-filled channels branch passband stopband attenuation =
-      let made = Channelizer.channelizerLowpassOf channels branch passband stopband attenuation in
-      of-fills _ (any-count (λ n. Lowpass.outcomeOf (Channelizer.fittedOf made n)) (channelizer-bytes-sound channels branch passband stopband attenuation) (length before)) (channelizer-count made (length before))
+  channelizer-filled channels branch passband stopband attenuation = of-fills _ (channelizer-made channels branch passband stopband attenuation (length before)) (channelizer-count (Channelizer.channelizerLowpassOf channels branch passband stopband attenuation) (length before))
 
   -- `halfband_taps`, whose last divisor is that of `HalfbandDesign::new`: both ways to a half-band agree
   module _ (beta : Float) (f : Fills (halfbandTapsOf beta (length before)) before r after) where
@@ -149,7 +135,7 @@ module _ {before after : List Float} {r : Verdict} where
     by-taps = fills-agreed _ _ (agree beta (length before)) (halfband-count beta (length before)) f
 
     pub halfband-filled : SliceTotals (Halfband.outcomeOf (Halfband.halfbandOf beta (length before))) r after
-    halfband-filled = of-fills _ (any-count (λ n. Halfband.outcomeOf (Halfband.halfbandOf beta n)) (halfband-bytes-sound beta) (length before)) (halfband-count beta (length before)) by-taps
+    halfband-filled = of-fills _ (halfband-made beta (length before)) (halfband-count beta (length before)) by-taps
 
     pub halfband-mirrors : SliceMirrors r after
     halfband-mirrors = of-symmetric _ (halfband-symmetric beta (length before)) (halfband-count beta (length before)) by-taps
