@@ -1,18 +1,18 @@
 -- A real ticket of each kind meets every premise of both totals: it is accepted, its last divisor and its taps are
--- finite, Q15 takes each of them and none saturates. So both totals stand for it with no premise left, and the mirror
--- and a zero of a half-band. Assumes nothing.
-use mathlib.Core.Path.{_≡_, refl, sym, _∙_, subst}
+-- finite, Q15 takes each of them and none saturates. So both totals stand for it with no premise left, in bytes, after a
+-- conversion and in a slice, and the mirror and a zero of a half-band. Assumes nothing.
+use mathlib.Core.Path.{_≡_, refl, sym, ap, _∙_, subst}
 use Prim.Native.Nat.{ℕ, _-_, _*_, _/_, _%_, _<_}
 use native.Mathlib.Omega.{arith}
 use mathlib.Core.Bool.{Bool, true, false, _&&_}
 use mathlib.Core.List.{List, [], _∷_}
 use lib.Dec.{T, eqb}
-use lib.ListN.{length, take, drop}
-use lib.Ieee.{Float, ofBits, ofInt, round, add, sub, mul, div, lt, le, ne, toUnsigned}
+use lib.ListN.{length, take, drop, getD}
+use lib.Ieee.{Float, nan, ofBits, ofInt, round, add, sub, mul, div, lt, le, ne, toUnsigned}
 use lib.Ieee.Fits.{and-l, and-r}
 use lib.Ieee.Scale.{finite}
 use Rattle.laws.specs.Binary64.{whole, fraction, fact, over}
-use Rattle.laws.specs.Filled.{tabulate}
+use Rattle.laws.specs.Filled.{tabulate, length-tabulate}
 use Rattle.laws.specs.Floor.{floorZ, ceilZ}
 use Rattle.laws.specs.SumError.{Each}
 use Rattle.laws.specs.Sums.{sumTo}
@@ -28,9 +28,15 @@ use Rattle.math_numbers.specs.Numbers.{positive}
 use Rattle.math_bessel.specs.Series.{seriesOf}
 use Rattle.fir_length.specs.Kaiser.{betaOf, orderOf}
 use Rattle.fmt_q15.specs.Q15.{moved, takes}
-use Rattle.verdict.specs.Outcome.{Outcome}
+use Rattle.verdict.specs.declared.Verdict.{Verdict}
+use Rattle.verdict.specs.Outcome.{Outcome, Fills}
 use Rattle.verdict.specs.Outcome as Outcome
 use Rattle.fir_sinc.specs.Windows.{windowAt, normOf}
+use Rattle.fir_sinc.specs.declared.window.Window.the-variants.{Hann}
+use Rattle.fir_lowpass.specs.LowpassLaws.{lowpass-count}
+use Rattle.fir_spec.specs.SpecLaws.{spec-count}
+use Rattle.fir_gaussian.specs.GaussianLaws.{gaussian-count}
+use Rattle.fir_channelizer.specs.ChannelizerLaws.{channelizer-count}
 use Rattle.fir_lowpass.specs.Lowpass as Lowpass
 use Rattle.fir_spec.specs.Spec.{specOrderOf, specDesignOf}
 use Rattle.fir_halfband.specs.Halfband as Halfband
@@ -54,6 +60,7 @@ use Rattle.promise_totals.specs.Bounds.{TapTotal, Q15Total, unsaturated}
 use Rattle.promise_totals.specs.Sound.{Sound, lowpass-bytes-sound, spec-bytes-sound, halfband-bytes-sound, gaussian-bytes-sound, channelizer-bytes-sound}
 use Rattle.promise_totals.specs.Written.{Accepted, divisorIn, tapsIn, Totals, lowpass-written, spec-written, halfband-written, gaussian-written, channelizer-written}
 use Rattle.promise_totals.specs.Mirror.{halfband-mirrored, halfband-zeros}
+use Rattle.promise_totals.specs.Slices.{IsDone, SliceTotals, lowpass-filled, spec-filled, gaussian-filled, channelizer-filled, by-taps, halfband-filled, halfband-mirrors}
 use Rattle.promise_totals.specs.Filter.{FilterTotal, WholeTaps, whole-taps, filter-total, conversion-accepted}
 
 -- ---- the premises
@@ -82,20 +89,32 @@ unfolding all
 all-each b [] h = tt
 all-each b (t ∷ ts) h = let p = both (b t) (all b ts) h in (p .0, all-each b ts (p .1))
 
--- an outcome that passes it meets them, with whatever was in the buffer
-pub met-premises : (o : Outcome) (before : List ℕ) → Sound o → T (met o) → Premises (outcomeReport o) (written floatBytes o before)
-unfolding met acceptedOf
-met-premises (Outcome.Designed n divisor tap) before (taps, fit) h =
+record Meets (divisor : Float) (ts : List Float) : Type 0 where
+  divides : T (finite divisor)
+  finites : Each finite ts
+  taken : Each takes ts
+  within : Each unsaturated ts
+
+by-test : (n : ℕ) (divisor : Float) (tap : ℕ → Float) → T (met (Outcome.Designed n divisor tap)) → Meets divisor (tabulate n tap)
+unfolding met
+by-test n divisor tap h =
     let ts = tabulate n tap in
     let p = both (finite divisor) (all finite ts && (all takes ts && all unsaturated ts)) h in
     let q = both (all finite ts) (all takes ts && all unsaturated ts) (p .1) in
     let s = both (all takes ts) (all unsaturated ts) (q .1) in
-    let read : (b : Float → Bool) → T (all b ts) → Each b (floatsIn n (written floatBytes (Outcome.Designed n divisor tap) before)) = λ b u. subst (λ (z : List Float). Each b z) (sym (floats-back n tap fit)) (all-each b ts u) in
-    record { accepted = refl; divisor = p .0; finites = read finite (q .0); taken = read takes (s .0); within = read unsaturated (s .1) }
+    record { divides = p .0; finites = all-each finite ts (q .0); taken = all-each takes ts (s .0); within = all-each unsaturated ts (s .1) }
+
+-- an outcome that passes it meets them, with whatever was in the buffer
+pub met-premises : (o : Outcome) (before : List ℕ) → Sound o → T (met o) → Premises (outcomeReport o) (written floatBytes o before)
+unfolding met acceptedOf
+met-premises (Outcome.Designed n divisor tap) before (taps, fit) h =
+    let k = subst (Meets divisor) (sym (floats-back n tap fit)) (by-test n divisor tap h) in
+    record { accepted = refl; divisor = k .divides; finites = k .finites; taken = k .taken; within = k .within }
 met-premises (Outcome.Refused why) before numbered h = absurd h
 
 -- ---- with no premise left: what an export that does as o answers and leaves in a buffer
 pub record Stands (o : Outcome) (before : List ℕ) : Type 0 where
+  pub accepted : Accepted (outcomeReport o)
   pub taps : TapTotal (tapsIn (outcomeReport o) (written floatBytes o before))
   pub codes : Q15Total (tapsIn (outcomeReport o) (written floatBytes o before))
   -- `pel_to_q15` accepts these bytes for a destination of two bytes a tap, and what is read there has the total
@@ -110,6 +129,7 @@ stands o before s m t =
     let p = met-premises o before s m in
     let whole : WholeTaps (outcomeReport o) (written floatBytes o before) = whole-taps s (itself {o = o} {before = before}) in
     record {
+      accepted = p .accepted;
       taps = t .taps (p .accepted) (p .divisor) (p .finites);
       codes = t .codes (p .accepted) (p .divisor) (p .finites) (p .taken) (p .within);
       filter = λ out codes c room v.
@@ -223,3 +243,62 @@ module _ (before : List ℕ) (e : length before ≡ 56) where
       halfband-zeros (whole 0) before left answer itself accepted 1 (omega (arith, seven))
       (subst (λ (n : ℕ). distance n 1 % 2 ≡ 0) (sym seven) refl)
       (λ z. let none : distance 7 1 ≡ 0 = subst (λ (n : ℕ). distance n 1 ≡ 0) seven z in omega (arith, none))
+
+-- ---- the same of a slice, by what each function ensures of these tickets
+pub record SliceStands (r : Verdict) (after : List Float) : Type 0 where
+  pub accepted : IsDone r
+  pub taps : TapTotal after
+  pub codes : Q15Total after
+
+slice-stands : (o : Outcome) {before after : List Float} {r : Verdict} → Counted (length before) o → T (met o) → Fills o before r after → SliceTotals o r after → SliceStands r after
+unfolding met
+slice-stands (Outcome.Designed n divisor tap) e m f t =
+    let k = subst (Meets divisor) (sym (f .buffer ∙ ap (λ (m : ℕ). tabulate m tap) (sym e))) (by-test n divisor tap m) in
+    record { accepted = f .answer; taps = t .taps (f .answer) (k .divides) (k .finites); codes = t .codes (f .answer) (k .divides) (k .taken) (k .within) }
+slice-stands (Outcome.Refused why) e m f t = absurd m
+
+-- the same ticket with another slice of as many elements
+of-count : (made : ℕ → Outcome) (n : ℕ) (before : List Float) → length before ≡ n → T (met (made n)) → T (met (made (length before)))
+of-count made n before e m = subst (λ (k : ℕ). T (met (made k))) (sym e) m
+
+-- a slice keeps its length
+same-length : (o : Outcome) {before after : List Float} {r : Verdict} → Fills o before r after → length after ≡ length before
+same-length (Outcome.Designed n divisor tap) {before} f = ap length (f .buffer) ∙ length-tabulate (length before) tap
+same-length (Outcome.Refused why) f = ap length (f .buffer)
+
+module _ (before : List Float) {after : List Float} {r : Verdict} where
+  pub lowpass-slice-stands : length before ≡ 5 → Fills (Lowpass.outcomeOf (Lowpass.lowpassOf (fraction 1 4) (whole 1) Hann (length before))) before r after → SliceStands r after
+  unfolding windowOf
+  lowpass-slice-stands e f =
+      let made : ℕ → Outcome = λ n. Lowpass.outcomeOf (Lowpass.lowpassOf (fraction 1 4) (whole 1) Hann n) in
+      slice-stands (made (length before)) (lowpass-count (fraction 1 4) (whole 1) Hann (length before)) (of-count made 5 before e lowpass-met) f (lowpass-filled (fraction 1 4) (whole 1) Hann f)
+
+  pub spec-slice-stands : length before ≡ 3 → Fills (Lowpass.outcomeOf (specDesignOf (specOf (fraction 1 4) (fraction 1 2) (whole 8)) (whole 1) 3 (length before))) before r after → SliceStands r after
+  spec-slice-stands e f =
+      let spec = specOf (fraction 1 4) (fraction 1 2) (whole 8) in
+      let made : ℕ → Outcome = λ n. Lowpass.outcomeOf (specDesignOf spec (whole 1) 3 n) in
+      slice-stands (made (length before)) (spec-count spec (whole 1) 3 (length before)) (of-count made 3 before e spec-met) f (spec-filled spec (whole 1) 3 f)
+
+  pub gaussian-slice-stands : length before ≡ 5 → Fills (Gaussian.outcomeOf (Gaussian.fittedOf (Gaussian.gaussianOf (fraction 1 2) 2 2) (length before))) before r after → SliceStands r after
+  gaussian-slice-stands e f =
+      let made : ℕ → Outcome = λ n. Gaussian.outcomeOf (Gaussian.fittedOf (Gaussian.gaussianOf (fraction 1 2) 2 2) n) in
+      slice-stands (made (length before)) (gaussian-count (Gaussian.gaussianOf (fraction 1 2) 2 2) (length before)) (of-count made 5 before e gaussian-met) f (gaussian-filled (fraction 1 2) 2 2 f)
+
+  pub channelizer-slice-stands : length before ≡ 16 → Fills (Lowpass.outcomeOf (Channelizer.fittedOf (Channelizer.channelizerLowpassOf 4 4 (fraction 1 2) (whole 1) (whole 20)) (length before))) before r after → SliceStands r after
+  channelizer-slice-stands e f =
+      let prototype = Channelizer.channelizerLowpassOf 4 4 (fraction 1 2) (whole 1) (whole 20) in
+      let made : ℕ → Outcome = λ n. Lowpass.outcomeOf (Channelizer.fittedOf prototype n) in
+      slice-stands (made (length before)) (channelizer-count prototype (length before)) (of-count made 16 before e channelizer-met) f (channelizer-filled 4 4 (fraction 1 2) (whole 1) (whole 20) f)
+
+  pub halfband-slice-stands : length before ≡ 7 → Fills (Halfband.halfbandTapsOf (whole 0) (length before)) before r after → SliceStands r after
+  halfband-slice-stands e f =
+      let made : ℕ → Outcome = λ n. Halfband.outcomeOf (Halfband.halfbandOf (whole 0) n) in
+      slice-stands (made (length before)) (halfband-count (whole 0) (length before)) (of-count made 7 before e halfband-met) (by-taps (whole 0) f) (halfband-filled (whole 0) f)
+
+  -- index 1, at the distance 2 from the middle
+  pub halfband-slice-zero-stands : length before ≡ 7 → Fills (Halfband.halfbandTapsOf (whole 0) (length before)) before r after → IsZero (getD after 1 nan)
+  halfband-slice-zero-stands e f =
+      let long : length after ≡ 7 = same-length (Halfband.halfbandTapsOf (whole 0) (length before)) f ∙ e in
+      halfband-mirrors (whole 0) f .zeros (halfband-slice-stands e f .accepted) 1 (omega (arith, long))
+      (subst (λ (n : ℕ). distance n 1 % 2 ≡ 0) (sym long) refl)
+      (λ z. let none : distance 7 1 ≡ 0 = subst (λ (n : ℕ). distance n 1 ≡ 0) long z in omega (arith, none))

@@ -59,7 +59,7 @@ pub record SliceTotals (o : Outcome) (r : Verdict) (after : List Float) : Type 0
 
 -- of a half-band
 pub record SliceMirrors (r : Verdict) (after : List Float) : Type 0 where
-  -- each tap is bit for bit the same as its mirror image: two floats are equal where their bits are, but for a NaN's
+  -- each tap is bit for bit the same as its mirror image: equal floats have the same bits, but for a NaN's payload
   pub mirrored : IsDone r → (i : ℕ) → i < length after → getD after i nan ≡ getD after (length after - 1 - i) nan
   -- zero, "of either sign", where its "distance" is even and not 0: the size of i − (n − 1)/2, index (n − 1)/2 being
   -- "the middle"
@@ -131,7 +131,7 @@ module _ {before after : List Float} {r : Verdict} where
 
   -- `halfband_taps`, whose last divisor is that of `HalfbandDesign::new`: both ways to a half-band agree
   module _ (beta : Float) (f : Fills (halfbandTapsOf beta (length before)) before r after) where
-    by-taps : Fills (Halfband.outcomeOf (Halfband.halfbandOf beta (length before))) before r after
+    pub by-taps : Fills (Halfband.outcomeOf (Halfband.halfbandOf beta (length before))) before r after
     by-taps = fills-agreed _ _ (agree beta (length before)) (halfband-count beta (length before)) f
 
     pub halfband-filled : SliceTotals (Halfband.outcomeOf (Halfband.halfbandOf beta (length before))) r after

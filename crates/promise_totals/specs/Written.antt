@@ -1,16 +1,14 @@
 -- Demand 3 of the taps that the exports write, read back from the bytes, for every ticket and every length of the
 -- buffer. Assumes nothing.
 use mathlib.Core.Path.{_≡_, sym, subst}
-use mathlib.Core.Bool.{Bool}
 use mathlib.Core.List.{List}
 use Prim.Native.Nat.{ℕ}
 use lib.Dec.{T}
 use lib.ListN.{length}
 use lib.Ieee.{Float}
 use lib.Ieee.Scale.{finite}
-use Rattle.laws.specs.Filled.{tabulate}
 use Rattle.laws.specs.SumError.{Each}
-use Rattle.wire.specs.Bytes.{floatsIn}
+use Rattle.wire.specs.Bytes.{floatBytes, floatsIn}
 use Rattle.wire.specs.Read.{floats-back}
 use Rattle.verdict.specs.Report.{acceptedOf}
 use Rattle.verdict.specs.declared.Report.{Report}
@@ -24,10 +22,9 @@ use Rattle.c_lowpass.specs.Prototype.{channelizerBytes}
 use Rattle.c_pulses.specs.Buffers.{halfbandBytes, gaussianBytes}
 use Rattle.verdict.specs.Reports.{outcomeReport}
 use Rattle.c_lowpass.specs.Spec.{specBytes}
-use Rattle.wire.specs.Bytes.{floatBytes}
 use Rattle.wire.specs.Writes.{Writes, written}
 use Rattle.promise_totals.specs.Bounds.{TapTotal, Q15Total, unsaturated}
-use Rattle.promise_totals.specs.Normalised.{tap-total, q15-total}
+use Rattle.promise_totals.specs.Normalised.{Promised, normalised-promised}
 use Rattle.promise_totals.specs.Sound.{Sound, lowpass-bytes-sound, spec-bytes-sound, halfband-bytes-sound, gaussian-bytes-sound, channelizer-bytes-sound}
 
 -- ---- the statement, of an export's report r and of its buffer afterwards
@@ -59,12 +56,8 @@ by-writes P {o} {before} {after} {r} w p = subst (λ (z : List ℕ). P r z) (sym
 sound-totals : (o : Outcome) (before : List ℕ) → Sound o → Totals (outcomeReport o) (written floatBytes o before)
 unfolding acceptedOf
 sound-totals (Outcome.Designed n divisor tap) before (taps, fit) =
-    let back : floatsIn n (written floatBytes (Outcome.Designed n divisor tap) before) ≡ tabulate n tap = floats-back n tap fit in
-    let in-taps : (b : Float → Bool) → Each b (floatsIn n (written floatBytes (Outcome.Designed n divisor tap) before)) → Each b (tabulate n tap) = λ b u. subst (λ (z : List Float). Each b z) back u in
-    record {
-      taps = λ e t u. subst TapTotal (sym back) (tap-total taps t (in-taps finite u));
-      codes = λ e t u v w. subst Q15Total (sym back) (q15-total taps t (in-taps finite u) (in-taps takes v) (in-taps unsaturated w));
-    }
+    let p = subst (Promised divisor) (sym (floats-back n tap fit)) (normalised-promised taps) in
+    record { taps = λ e. p .taps; codes = λ e t u. p .codes t }
 sound-totals (Outcome.Refused why) before numbered = record { taps = λ e t u. absurd (numbered e); codes = λ e t u v w. absurd (numbered e) }
 
 of-writes : {o : Outcome} {before after : List ℕ} {r : Report} → Sound o → Writes floatBytes o before r after → Totals r after
