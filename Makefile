@@ -1,4 +1,6 @@
 # `make run` does the main job, `make test` passes the tests; the others are parts of them or extras.
+# Without make's own rules, which it would try on each of hundreds of sources.
+MAKEFLAGS += --no-builtin-rules
 CC ?= cc
 CFLAGS ?= -O2
 STRICT = -std=c11 -Wall -Wextra -Werror -Iinclude
@@ -6,19 +8,18 @@ CHECKED = -g -O1 -fsanitize=address,undefined -fno-sanitize-recover=all
 LIB = target/lib/libpeldozkar.a
 # The crates with exports: each makes one object, and the library holds them all.
 EXPORTS = c_lowpass c_pulses c_windows c_formats c_sections c_math c_gain
-# How many objects are made at once.
-JOBS = $(shell nproc 2>/dev/null || echo 1)
-# All crates that those rest on, by crates.txt.
-BELOW = $(shell for crate in $(EXPORTS); do sed -n "s/^$$crate://p" crates.txt; done | tr ' ' '\n' | sort -u)
+# The library depends on the files of those crates and of all that they rest on, by crates.txt, and on which files and
+# crates these are, for which the name of an empty file stands. So nothing above the exports makes it anew.
+BELOW := $(shell tools/below --files $(EXPORTS))
+CRATES := target/lib/crates-$(firstword $(BELOW))
+SOURCES := $(filter crates/%,$(BELOW))
 DESIGN = $(addprefix tools/,design.c kinds.c forms.c words.c help.c files.c name.c picture.c plot.c response.c)
 # Where `make install` puts things, below DESTDIR if that is said, and the header's version.
 PREFIX ?= /usr/local
 DESTDIR ?=
 VERSION = $(shell sed -n 's/^.define PEL_VERSION "\(.*\)"$$/\1/p' include/peldozkar.h)
-SOURCES = $(shell find crates -name '*.rt' -o -name '*.antt') crates.txt
 
 .PHONY: run functions test lib install uninstall c tool examples compare day bench list distance clean rust scipy
-.SECONDARY:
 
 # What `make run` designs; say another one as in: make run ARGS="spec --cutoff 1000 --transition 200 --attenuation 60 --rate 8000"
 ARGS ?= lowpass --cutoff 1000 --rate 8000 --taps 31 --window kaiser --beta 5.65326
@@ -35,13 +36,13 @@ test:
 
 lib: $(LIB)
 
-# What the crates with exports rest on is proved first, then their objects are made: both several at once.
-$(LIB): $(SOURCES) tools/object
-	mkdir -p target/lib
-	rm -f target/lib/*
-	rt check $(BELOW) >target/below.log 2>&1 || { cat target/below.log; exit 1; }
-	printf '%s\n' $(EXPORTS) | xargs -P $(JOBS) -I{} tools/object {}
-	cd target/lib && ar rcs libpeldozkar.a $(EXPORTS:=.o)
+# Proved and made beside the one that is there, which stays until the new one is whole.
+$(LIB): $(SOURCES) $(CRATES) tools/library tools/object
+	@CC='$(CC)' tools/library $@ $(EXPORTS)
+
+$(CRATES):
+	@tools/ready --prove '$(CC)'
+	@mkdir -p $(@D) && rm -f $(@D)/crates-* && touch $@
 
 # The library, the header, files for pkg-config and CMake, the command line and its manual page below PREFIX: all of
 # them, or none with the reason.
@@ -54,6 +55,7 @@ uninstall:
 
 # Under another name first: two parts of the tests may make it at once, and run it.
 target/tools/design target/tools/functions: target/tools/%: tools/%.c include/peldozkar.h $(LIB)
+	@tools/ready '$(CC)'
 	mkdir -p target/tools
 	$(CC) $(CFLAGS) $(STRICT) $(filter %.c,$^) -o $@.$$$$ $(LIB) -lm && mv -f $@.$$$$ $@
 
