@@ -1,5 +1,8 @@
 //! The program that compares the port with the Rust: `compare`, `day`, `list`, `bench`.
 
+// `run compare` takes an export that port.rs calls for one that is compared, so what stands there must be used.
+#![deny(dead_code, unused_imports)]
+
 mod channelizer;
 mod day;
 mod formats;
