@@ -11,6 +11,7 @@ use lib.Dec.{T, eqb, leb}
 use lib.ListN.{length}
 use lib.Ieee.Bits.{is-true}
 use lib.Ieee.Fits.{and-l, and-r}
+use Rattle.laws.specs.Cases.{either}
 use Rattle.verdict.specs.Numbers.{refusals, badLength}
 use Rattle.verdict.specs.Report.{reportOf, acceptedOf}
 use Rattle.verdict.specs.Reports.{lengthReport, outcomeReport, doneReport}
@@ -87,6 +88,10 @@ numbered (Refused why) {k} e l = record {
   accepted = λ d. absurd (never-refused why d);
   only = λ z. absurd (never-zero (reportOf why .number) l (sym e ∙ z));
 }
+
+-- "the number is 0 or one of 1 to 11"
+pub zero-or-between : {v : Verdict} {k : ℕ} → Numbered v k → (k ≡ 0) ⊎ ((1 ≤ k) × (k ≤ length refusals))
+zero-or-between {v} {k} n = either (n .number) (λ e. inl e) (λ l. inr (between k l))
 
 -- ---- what is told of each kind of answer
 pub outcome-heard : (o : Outcome) → outcomeReport o .number ≡ heard (answered o)
