@@ -36,10 +36,22 @@ impl Lent {
     /// Whether all bytes but those from `start` to before `end` are as they came.
     fn as_they_came(&self, start: usize, end: usize) -> bool {
         let mut random = Random::new(self.seed);
-        self.bytes.chunks_exact(8).enumerate().all(|(i, word)| {
-            let came = random.bits().to_le_bytes();
-            (0..8).all(|j| (start..end).contains(&(8 * i + j)) || word[j] == came[j])
-        })
+        self.bytes
+            .as_chunks::<8>()
+            .0
+            .iter()
+            .enumerate()
+            .all(|(i, word)| {
+                let came = random.bits().to_le_bytes();
+                // A word at a time, but where the part begins or ends within one.
+                if 8 * i >= start && 8 * i + 8 <= end {
+                    true
+                } else if 8 * i + 8 <= start || 8 * i >= end {
+                    *word == came
+                } else {
+                    (0..8).all(|j| (start..end).contains(&(8 * i + j)) || word[j] == came[j])
+                }
+            })
     }
 
     /// Whether the buffer begins with the elements, each the same as its bytes, and its other bytes
