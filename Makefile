@@ -20,7 +20,7 @@ PREFIX ?= /usr/local
 DESTDIR ?=
 VERSION = $(shell sed -n 's/^.define PEL_VERSION "\(.*\)"$$/\1/p' include/peldozkar.h)
 
-.PHONY: run functions test lib install uninstall c tool examples compare day bench list distance clean rust scipy
+.PHONY: run functions test lib install uninstall c tool examples compare day bench list distance clean rust scipy mutants
 
 # What `make run` designs; say another one as in: make run ARGS="spec --cutoff 1000 --transition 200 --attenuation 60 --rate 8000"
 ARGS ?= lowpass --cutoff 1000 --rate 8000 --taps 31 --window kaiser --beta 5.65326
@@ -103,6 +103,11 @@ bench: $(LIB)
 list: $(LIB)
 	tests/differential/run list >target/list
 	cp target/list crates/replay/stdin
+
+# Changes the proved code in one place at a time, a thousand and more, and each change has to be refused by the proofs:
+# what is left could be a hole in a contract. Half an hour; left at any time, it goes on from there.
+mutants:
+	tests/mutants/run
 
 # The elementary functions against the crate libm (Debian: librust-libm-dev).
 distance:
