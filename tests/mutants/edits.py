@@ -8,7 +8,7 @@ class Edit:
     """A file of replacements. A line `of:` names the public functions whose contract the wrong answer breaks, or, as
     `definition NAME`, what several crates' contracts cite."""
 
-    operator = "by hand"
+    operator, proof = "by hand", None
 
     def __init__(self, root, path):
         self.path = os.path.relpath(path, root)
@@ -36,32 +36,24 @@ class Edit:
         self.id = f"{self.path}: {self.pairs}"
 
     def places(self, texts):
-        """What is replaced: file, begin, end, new text. Where a replacement changes what another one left, whole files
-        are."""
-        found = [(file, texts[file].find(old), len(old), new) for file, old, new in self.pairs]
-        found = [(file, a, a + length, new) for file, a, length, new in found]
+        """What is replaced: file, begin, end, new text; whole files where there is more than one replacement, since one
+        may change what another left."""
+        if len(self.pairs) == 1:
+            file, old, new = self.pairs[0]
+            begin = texts[file].index(old)
+            return [(file, begin, begin + len(old), new)]
         after = dict(texts)
         for file, old, new in self.pairs:
             after[file] = after[file].replace(old, new)
-        apart = dict(texts)
-        for file, a, b, new in sorted(found, key=lambda place: place[1], reverse=True):
-            apart[file] = apart[file][:a] + new + apart[file][b:]
-        if apart == after and all(a >= 0 for _, a, _, _ in found):
-            return found
-        return [(file, 0, len(text), after[file]) for file, text in texts.items() if text != after[file]]
+        return [(file, 0, len(text), after[file]) for file, text in texts.items() if after[file] != text]
 
     def settle(self, sources, texts):
-        """Finds the function that the edit lies in, if it lies in one: then it can be checked beside others."""
-        functions = {
-            tuple(source.proof_of(function) or [])
-            for name, a, b, _ in self.places(texts)
-            for source in sources
-            if (source.crate, f"src/{source.name}") == (self.crate, name)
-            for function in source.functions
-            if source.spans[function.first][0] <= a and b <= source.spans[function.last][1]
-        }
-        inside = all(name.startswith("src/") and (a, b) != (0, len(texts[name])) for name, a, b, _ in self.places(texts))
-        self.proof = list(functions.pop()) or None if len(functions) == 1 and inside else None
+        """Finds the function that the edit lies in, if it is one: then it can be checked beside others."""
+        name, begin, end, _ = self.places(texts)[0]
+        for source in sources:
+            for function in source.functions if (source.crate, f"src/{source.name}") == (self.crate, name) else []:
+                if source.spans[function.first][0] <= begin and end <= source.spans[function.last][1]:
+                    self.proof = source.proof_of(function)
 
     def faults(self, texts):
         """What is wrong with the edit itself, for the crate's files as they stand."""
