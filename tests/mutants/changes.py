@@ -11,7 +11,7 @@ OTHER = {
     "+": "-*", "-": "+*", "*": "+/", "/": "*-", "%": "/*", "+=": ["-="], "-=": ["+="], "*=": ["+="],
     "<": ["<=", ">="], "<=": ["<", ">"], ">": [">=", "<="], ">=": [">", "<"], "==": ["!=", "<="], "!=": ["==", "<"],
     "&&": ["||"], "||": ["&&"], "|": "&", "&": "|", "<<": [">>"], ">>": ["<<"],
-}  # fmt: skip
+}
 # Statements that are never dropped: what is left would not compile, or is no statement.
 KEPT = ("let", "return", "match", "while", "for", "loop", "break", "}", ";")
 
@@ -147,7 +147,8 @@ class Walk:
         value = float(digits.replace("_", "")) if real else int(digits.replace("_", ""), 0)
         if real:
             narrow = value + max(abs(value) * 2.0**-23, 2.0**-149)
-            others = [value + 1, value * 2, 0.0, -value or 0.0, narrow if suffix == "f32" else math.nextafter(value, math.inf)]
+            others = [value + 1, value * 2, 0.0, -value or 0.0]
+            others.append(narrow if suffix == "f32" else math.nextafter(value, math.inf))
         else:
             others = [value + 1, value * 2, 0, max(value - 1, 0)]
         for text in dict.fromkeys(repr(other).replace("e+", "e") for other in others if other != value):

@@ -103,14 +103,23 @@ class Checker:
     def run(self, changes, job):
         """The same for several changes of one crate, each of another function, by one check. A function rests on the
         contracts of those that it calls and never on their code, so that each change is judged by the errors in the
-        proof of its own function; one of which that doesn't tell is checked alone, and so is each survivor."""
-        told = [None] * len(changes)
-        if len(changes) > 1:
-            place, begun = self.placed(changes[0].crate, job, changes), time.time()
-            status, said = self.check(changes[0].crate, place, f"{place}/inc")
-            seconds = round((time.time() - begun) / len(changes), 1)
-            told = [(*verdict, seconds) if verdict else None for verdict in (judged_in(status, said, c) for c in changes)]
-        return [known or self.run_one(change, job) for known, change in zip(told, changes)]
+        proof of its own function. Those that are not told by them, survivors mostly, are checked again by themselves."""
+        if len(changes) == 1:
+            return [self.run_one(changes[0], job)]
+        crate = changes[0].crate
+        place, begun = self.placed(crate, job, changes), time.time()
+        status, said = self.check(crate, place, f"{place}/inc")
+        seconds = round((time.time() - begun) / len(changes), 1)
+        ended = [judged_in(status, said, change) for change in changes]
+        left = [change for change, how in zip(changes, ended) if how is None]
+        if len(left) < len(changes):
+            rest = self.run(left, job) if left else []
+        elif status == 0 and self.check(crate, place)[0] == 0:
+            rest = [("survived", [], seconds)] * len(left)
+        else:
+            rest = [self.run_one(change, job) for change in left]
+        again = iter(rest)
+        return [(*how, seconds) if how else next(again) for how in ended]
 
 
 def changed(texts, changes):
@@ -169,5 +178,6 @@ def judged_in(status, said, change):
     if status != 1 or "logic=not-proved" not in said:
         return None
     folder, named = "/".join(change.proof), "::".join([change.crate, *change.proof])
-    own = [error for error in told_errors(said) if error.startswith((f"proofs/{folder}/Proof.antt:", f"fn {named}: no proof"))]
+    begins = (f"proofs/{folder}/Proof.antt:", f"fn {named}: no proof")
+    own = [error for error in told_errors(said) if error.startswith(begins)]
     return refused(own) if own else None

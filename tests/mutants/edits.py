@@ -80,7 +80,9 @@ def untried(edits, sources, least):
     tried = collections.Counter((edit.crate, name) for edit in edits for name in edit.of)
     crates = {source.crate for source in sources}
     few = [f"{crate}: {name} has {tried[crate, name]}" for crate, name in sorted(public) if tried[crate, name] < least]
-    stray = [f"{edit.path}: no public function is called {name}" for edit in edits for name in edit.of
-             if (edit.crate, name) not in public and not name.startswith("definition ")]  # fmt: skip
-    stray += [f"{edit.path}: no line 'of:'" for edit in edits if edit.crate in crates and not edit.of]
+    stray = [f"{edit.path}: no line 'of:'" for edit in edits if edit.crate in crates and not edit.of]
+    for edit in edits:
+        for name in edit.of:
+            if (edit.crate, name) not in public and not name.startswith("definition "):
+                stray.append(f"{edit.path}: no public function is called {name}")
     return len(public), few, stray
