@@ -10,7 +10,7 @@ class Entry:
     def __init__(self, block):
         self.place, said = block[0], {}
         for line in block[1:]:
-            word, _, rest = line.partition(": ")
+            word, _, rest = line.partition(":")
             said[word] = rest.strip()
         self.id = f"{self.place}: {said.pop('old', '')} -> {said.pop('new', '')}"
         if len(said) != 1 or not set(said) <= set(ENDS) or not all(said.values()):
