@@ -28,7 +28,8 @@ class Change:
         begins = text.rfind("\n", 0, self.spans[0][0]) + 1
         ends = text.find("\n", self.spans[-1][1])
         self.old, self.new = one_line(text[begins:ends]), one_line(replaced(text, self.spans, begins, ends))
-        self.id = f"{self.crate}/{self.file} {self.function}: {self.old} -> {self.new}"
+        self.place = f"{self.crate}/{self.file} {self.function}"
+        self.id = f"{self.place}: {self.old} -> {self.new}"
 
     def places(self, texts):
         """What is replaced: file, begin, end, new text."""

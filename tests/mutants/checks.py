@@ -103,7 +103,7 @@ class Checker:
     def run(self, changes, job):
         """The same for several changes of one crate, each of another function, by one check. A function rests on the
         contracts of those that it calls and never on their code, so that each change is judged by the errors in the
-        proof of its own function. Those that are not told by them, survivors mostly, are checked again by themselves."""
+        proof of its own function. Those that are not told by them, survivors mostly, are checked again apart."""
         if len(changes) == 1:
             return [self.run_one(changes[0], job)]
         crate = changes[0].crate

@@ -1,18 +1,20 @@
-"""The list of changes that are still proved, each with the reason why that is no hole in a contract."""
+"""The list of changes that are still proved, each with the reason why that is no hole in a contract. A function that
+promises nothing is listed whole."""
 
 # How a listed change ends, by the word that its reason stands behind.
 ENDS = {"same": "survived", "time": "survived", "timeout": "timeout"}
 
 
 class Entry:
-    """A change by its file, its function, and the line before and after, with its reason."""
+    """A change by its file, its function, and the line before and after, with its reason; or a whole function."""
 
     def __init__(self, block):
         self.place, said = block[0], {}
         for line in block[1:]:
             word, _, rest = line.partition(":")
             said[word] = rest.strip()
-        self.id = f"{self.place}: {said.pop('old', '')} -> {said.pop('new', '')}"
+        self.whole = "old" not in said
+        self.id = self.place if self.whole else f"{self.place}: {said.pop('old')} -> {said.pop('new', '')}"
         if len(said) != 1 or not set(said) <= set(ENDS) or not all(said.values()):
             raise SystemExit(f"mutants: survivors.txt: one reason behind {', '.join(ENDS)} is wanted at {self.place}")
         (self.word,) = said

@@ -21,9 +21,9 @@ COMPARED = ("<", "<=", ">", ">=", "==", "!=")
 class Function:
     """A function with its body, or a constant with its value, as a range of words."""
 
-    def __init__(self, name, kind, public, params, first, last):
-        self.name, self.kind, self.public, self.params = name, kind, public, params
-        self.first, self.last = first, last
+    def __init__(self, name, kind, public, promises, params, first, last):
+        self.name, self.kind, self.params, self.first, self.last = name, kind, params, first, last
+        self.public, self.promises = public, promises  # whether others can call it, and whether it has an `ensures`
 
 
 class Types:
@@ -43,9 +43,10 @@ class Source:
         self.crate, self.name, self.text, self.types = crate, name, text, types
         found = [m for m in WORD.finditer(text) if not m.group().startswith("//")]
         self.words = [m.group() for m in found]
-        kept, k = [], 0
+        kept, promised, k = [], [], 0
         while k < len(found):
             if self.words[k] in ("requires", "ensures", "#"):
+                promised += [found[k].start()] if self.words[k] == "ensures" else []
                 k = self.closing(k + 1)
             elif self.words[k] in ("ghost", "use", "mod"):
                 k = self.words.index(";", k)
@@ -53,7 +54,7 @@ class Source:
                 kept.append(found[k])
             k += 1
         self.words, self.spans = [m.group() for m in kept], [m.span() for m in kept]
-        self.functions, self.consts = [], {}
+        self.functions, self.consts, self.promised = [], {}, promised
         self.read_items()
 
     # ---- words in a range
@@ -102,7 +103,7 @@ class Source:
                     self.types.constants[words[k + 1]] = words[end - 1]
                 else:
                     self.consts[words[k + 1]] = (words[k + 3], False)
-                    self.functions.append(Function(words[k + 1], "const", False, {}, k + 4, end))
+                    self.functions.append(Function(words[k + 1], "const", False, True, {}, k + 4, end))
             elif words[k] in ("struct", "enum") and words[k + 2] in "({":
                 end = self.read_type(k)
             k = end + 1
@@ -121,7 +122,8 @@ class Source:
         name = f"{record}::{words[k + 1]}" if record else words[k + 1]
         taken = tuple(kind for name, (kind, _) in params.items() if name != "self")
         self.types.functions[words[k + 1]].append((self, taken, answer))
-        self.functions.append(Function(name, "fn", public, params, body, end))
+        promises = any(self.spans[k][0] < place < self.spans[body][0] for place in self.promised)
+        self.functions.append(Function(name, "fn", public, promises, params, body, end))
         return end
 
     def read_type(self, k):
