@@ -20,7 +20,7 @@ class Checker:
 
     def __init__(self, root, scratch, seconds):
         self.root, self.scratch, self.seconds = root, scratch, seconds
-        self.locks = collections.defaultdict(threading.Lock)
+        self.locks, self.texts = collections.defaultdict(threading.Lock), {}
         rt = os.path.realpath(shutil.which("rt"))
         self.home = os.environ.get("RATTLE_HOME") or os.path.dirname(os.path.dirname(rt))
         self.own = f"{self.home}/on/{os.uname().machine}"
@@ -60,34 +60,24 @@ class Checker:
         with self.locks[crate]:
             if not os.path.isfile(f"{warm}.{state}"):
                 os.makedirs(warm, exist_ok=True)
-                status, said = self.check(crate, f"{self.root}/crates/{crate}", warm)
+                write_files(f"{self.scratch}/sound/{crate}", self.sound(crate))
+                status, said = self.check(crate, f"{self.scratch}/sound/{crate}", warm)
                 if status != 0:
                     raise SystemExit(f"mutants: {crate} is not proved as it stands:\n{said[-3000:]}")
                 open(f"{warm}.{state}", "w").close()
         return warm
 
     def sound(self, crate):
-        """The crate's files by name, as they stand."""
-        top, texts = f"{self.root}/crates/{crate}", {}
-        for part in PARTS:
-            for folder, _, names in os.walk(f"{top}/{part}"):
-                for name in names:
-                    path = f"{folder}/{name}"
-                    with open(path) as file:
-                        texts[os.path.relpath(path, top)] = file.read()
-        return texts
+        """The crate's files by name, as they stood when this began."""
+        if crate not in self.texts:
+            self.texts[crate] = files_in(f"{self.root}/crates/{crate}")
+        return self.texts[crate]
 
     def placed(self, crate, job, changes):
         """A copy of the crate with these changes, beside what a check of the sound one left; a folder for each job."""
         warm, place = self.warm(crate), f"{self.scratch}/job{job}/{crate}"
-        for part in PARTS:
-            restore(f"{self.root}/crates/{crate}/{part}", f"{place}/{part}")
         restore(warm, f"{place}/inc")
-        sound = self.sound(crate)
-        for name, text in changed(sound, changes).items():
-            if text != sound[name]:
-                with open(f"{place}/{name}", "w") as file:
-                    file.write(text)
+        write_files(place, changed(self.sound(crate), changes))
         return place
 
     def run_one(self, change, job):
@@ -132,6 +122,29 @@ def changed(texts, changes):
         for a, b, new in sorted(found, reverse=True):
             texts[name] = texts[name][:a] + new + texts[name][b:]
     return texts
+
+
+def files_in(top):
+    """The texts of the files below src/, specs/ and proofs/, by name."""
+    texts = {}
+    for part in PARTS:
+        for folder, _, names in os.walk(f"{top}/{part}"):
+            for name in names:
+                with open(f"{folder}/{name}") as file:
+                    texts[os.path.relpath(f"{folder}/{name}", top)] = file.read()
+    return texts
+
+
+def write_files(top, texts):
+    """Makes the files below src/, specs/ and proofs/ those that are given, and no others."""
+    have = files_in(top)
+    for name in have.keys() - texts.keys():
+        os.remove(f"{top}/{name}")
+    for name, text in texts.items():
+        if have.get(name) != text:
+            os.makedirs(os.path.dirname(f"{top}/{name}"), exist_ok=True)
+            with open(f"{top}/{name}", "w") as file:
+                file.write(text)
 
 
 def restore(sound, place):
