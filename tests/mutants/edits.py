@@ -74,10 +74,28 @@ def read(root):
     return [Edit(root, path) for path in paths]
 
 
+def breaks(edit, name, sources):
+    """Whether an edit breaks the contract of this function itself: it lies in its body, or changes a definition. One in
+    a function that it calls is refused by that one's contract, and says nothing of this one's."""
+    for file, old, _ in edit.pairs:
+        if file.startswith("specs/"):
+            return True
+        for source in sources:
+            if (source.crate, f"src/{source.name}") == (edit.crate, file) and old in source.text:
+                begin = source.text.index(old)
+                for function in source.functions:
+                    first, last = source.spans[function.first][0], source.spans[function.last][1]
+                    if function.name == name and first <= begin and begin + len(old) <= last:
+                        return True
+    return False
+
+
 def untried(edits, sources, least):
-    """The public functions with fewer than `least` wrong answers, and the edits that name no public function."""
+    """The public functions whose own contract fewer than `least` wrong answers break, and the edits that name no public
+    function."""
     public = {(s.crate, f.name) for s in sources for f in s.functions if f.public}
-    tried = collections.Counter((edit.crate, name) for edit in edits for name in edit.of)
+    named = [(edit, name) for edit in edits for name in edit.of]
+    tried = collections.Counter((edit.crate, name) for edit, name in named if breaks(edit, name, sources))
     crates = {source.crate for source in sources}
     few = [f"{crate}: {name} has {tried[crate, name]}" for crate, name in sorted(public) if tried[crate, name] < least]
     stray = [f"{edit.path}: no line 'of:'" for edit in edits if edit.crate in crates and not edit.of]
