@@ -12,6 +12,7 @@ pub mod Values
 pub mod Patterns
 pub mod Compared
 pub mod Signs
+pub mod PowersOfTwo
 pub mod Operations
 pub mod Floor
 pub mod WholeValues

@@ -6,8 +6,10 @@ use mathlib.Core.Path.{_≡_, refl, ap, sym, _∙_}
 use native.Mathlib.Numerals.{add-one}
 use native.Mathlib.Omega.{arith}
 use lib.Dec.{lit≤}
-use lib.Ieee.{Float, lt, ofInt, round, mul}
-use Rattle.laws.specs.Binary64.{_⊕_, _⊗_, _⊘_, whole}
+use lib.IntN.{pos}
+use lib.Ieee.{Float, binary64, lt, ofInt, round, mul}
+use Rattle.laws.specs.Binary64.{_⊕_, _⊗_, _⊘_, whole, fraction}
+use Rattle.laws.specs.PowersOfTwo.{by-inverse}
 use Rattle.math_bessel.specs.Series.{term, partial, least, small, firstSmall, termsOf, seriesOf}
 
 -- one term more
@@ -107,10 +109,18 @@ module _ {h t s : Float} {k : ℕ} (g : Going h t s k) where
           still = sym (ahead-more h k l (sym ends ∙ f)) ∙ g .still;
         }
 
-pub series-is : (x s : Float) (n : ℕ) → s ≡ partial (x ⊘ whole 2) (termsOf (x ⊘ whole 2)) → n ≡ termsOf (x ⊘ whole 2) → record { sum = s; terms = n } ≡ seriesOf x
-unfolding seriesOf
-series-is x s n e f = rw (e, f)
+-- ---- the code halves by a product
+abbrev pub halfOf : Float → Float
+halfOf x = x ⊗ fraction 1 2
 
-pub sum-is : (x : Float) {s : Float} → s ≡ partial (x ⊘ whole 2) (termsOf (x ⊘ whole 2)) → s ≡ seriesOf x .sum
+half-is : (x : Float) → halfOf x ≡ x ⊘ whole 2
+unfolding ofInt round
+half-is x = by-inverse binary64 x (pos 1)
+
+pub series-is : (x s : Float) (n : ℕ) → s ≡ partial (halfOf x) (termsOf (halfOf x)) → n ≡ termsOf (halfOf x) → record { sum = s; terms = n } ≡ seriesOf x
 unfolding seriesOf
-sum-is x e = e
+series-is x s n e f = rw (e, f, half-is x)
+
+pub sum-is : (x : Float) {s : Float} → s ≡ partial (halfOf x) (termsOf (halfOf x)) → s ≡ seriesOf x .sum
+unfolding seriesOf
+sum-is x e = e ∙ ap (λ (h : Float). partial h (termsOf h)) (half-is x)

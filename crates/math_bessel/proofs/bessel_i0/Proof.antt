@@ -1,13 +1,12 @@
 -- `math_bessel::bessel_i0` meets its contract. Assumes nothing.
 use lib.Ieee.{ofBits, ofInt, round}
-use Rattle.laws.specs.Binary64.{_⊘_, whole}
-use Rattle.math_bessel.specs.Laws.{start, series-is}
+use Rattle.math_bessel.specs.Laws.{start, halfOf, series-is}
 use Rattle.math_bessel.proofs.bessel_i0.Statement.{statement}
 use Rattle.math_bessel.proofs.bessel_i0.Tie as tie
 
 rest-requires : tie.Need-rest-requires
 unfolding ofInt ofBits round
-rest-requires c κs = start (c .args .x ⊘ whole 2)
+rest-requires c κs = start (halfOf (c .args .x))
 
 returns : tie.Need-returns
 unfolding ofInt ofBits round

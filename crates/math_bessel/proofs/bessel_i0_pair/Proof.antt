@@ -4,22 +4,22 @@ use mathlib.Core.Path.{_≡_, refl}
 use Prim.Native.Nat.{_+_, _-_}
 use native.Mathlib.Omega.{arith}
 use lib.Ieee.{binary64, ofBits, ofInt, round}
-use Rattle.laws.specs.Binary64.{_⊘_, whole}
+use Rattle.laws.specs.Binary64.{whole}
 use Rattle.laws.specs.Tests.{neither}
 use Rattle.laws.specs.WholeSums.{add-one-whole}
-use Rattle.math_bessel.specs.Laws.{Going, start, again, sum-is}
+use Rattle.math_bessel.specs.Laws.{Going, start, again, halfOf, sum-is}
 use Rattle.math_bessel.proofs.bessel_i0_pair.Statement.{statement}
 use Rattle.math_bessel.proofs.bessel_i0_pair.Tie as tie
 
 abbrev Inv-loop : tie.InvT-loop
-Inv-loop x y a b t₀ u₀ s₀ r₀ k₀ d₀ t u s r k d = Going (x ⊘ whole 2) t s k × Going (y ⊘ whole 2) u r k × (d ≡ whole (k + 1))
+Inv-loop x y a b t₀ u₀ s₀ r₀ k₀ d₀ t u s r k d = Going a t s k × Going b u r k × (d ≡ whole (k + 1))
 
 abbrev μ-loop : tie.MeasureT-loop
 μ-loop x y a b t₀ u₀ s₀ r₀ k₀ d₀ t u s r k d = 500 - k
 
 loop-holds : tie.Need-loop-holds Inv-loop μ-loop
 unfolding ofInt ofBits round
-loop-holds c = (start (c .args .x ⊘ whole 2), start (c .args .y ⊘ whole 2), refl)
+loop-holds c = (start (halfOf (c .args .x)), start (halfOf (c .args .y)), refl)
 
 add-k : tie.Need-add-k Inv-loop μ-loop
 add-k c = omega arith
