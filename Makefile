@@ -20,7 +20,7 @@ PREFIX ?= /usr/local
 DESTDIR ?=
 VERSION = $(shell sed -n 's/^.define PEL_VERSION "\(.*\)"$$/\1/p' include/peldozkar.h)
 
-.PHONY: run functions test lib install uninstall c tool examples compare day bench list distance clean rust scipy mutants
+.PHONY: run functions test lib install uninstall c tool examples compare day bench list distance divisions clean rust scipy mutants
 
 # What `make run` designs; say another one as in: make run ARGS="spec --cutoff 1000 --transition 200 --attenuation 60 --rate 8000"
 ARGS ?= lowpass --cutoff 1000 --rate 8000 --taps 31 --window kaiser --beta 5.65326
@@ -112,6 +112,10 @@ mutants:
 # The elementary functions against the crate libm (Debian: librust-libm-dev).
 distance:
 	tests/differential/run distance
+
+# How many float divisions a Kaiser low-pass takes: as it is written, and compiled for a machine that emulates floats.
+divisions: $(LIB)
+	CC="$(CC)" tests/divisions
 
 clean:
 	rm -rf target

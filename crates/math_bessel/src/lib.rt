@@ -42,7 +42,7 @@ fn rest(half: f64, term: f64, sum: f64, k: u64) -> Series
 
 // I0(x) = 1 + Σ ((x/2)^k / k!)², each term from the one before. It stops after the first term below 1e-17 of the sum,
 // or after 500, as it does for NaN and infinities. Example: I0(0) is 1, with one term. The half is a product, whose bits
-// are those of the quotient: where floats are emulated it takes a fraction of a division's time.
+// are those of the quotient: so no machine divides for it, whatever its compiler does.
 pub fn bessel_i0(x: f64) -> Series
     ensures { λ r. ⌜ r ≡ seriesOf x ⌝ }
 {
