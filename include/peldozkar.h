@@ -27,9 +27,9 @@
 
 /* The version of this header and of the library that comes with it. */
 #define PEL_VERSION_MAJOR 0
-#define PEL_VERSION_MINOR 2
+#define PEL_VERSION_MINOR 3
 #define PEL_VERSION_PATCH 0
-#define PEL_VERSION "0.2.0"
+#define PEL_VERSION "0.3.0"
 
 #ifdef __cplusplus
 extern "C" {
@@ -95,7 +95,7 @@ typedef struct {
     uint64_t expected; /* PEL_LENGTH: the length expected; PEL_CAP: the taps needed */
     uint64_t given;    /* PEL_LENGTH: the length given;    PEL_CAP: max_taps */
     uint64_t index;    /* PEL_ELEMENT: the element's index */
-    uint64_t count;    /* accepted: the number of taps, terms, samples or elements */
+    uint64_t count;    /* accepted: the number of taps, terms, half samples, samples or elements */
     double value;      /* accepted: a divisor, a factor, a beta, a sum, or a Q15 or Q14 number */
 } pel_report;
 
@@ -122,7 +122,9 @@ pel_report pel_kaiserord(double ripple, double transition, double rate);
  * of 4. Mind the order of the arguments. Refused as pel_kaiserord. Example: (-100, 60, -8000): 295. */
 pel_report pel_halfband_len(double transition, double attenuation, double rate);
 
-/* The delay (count) of a linear-phase filter: (taps - 1)/2 samples, rounded down. Refused: 6 no taps. */
+/* Half samples (count), two of which are a sample, that a linear-phase filter delays by: taps - 1, so that
+ * the half of an even length is kept, for every count. Refused: 6 no taps. Example: 128 taps delay by 127
+ * half samples, which is 63.5 samples. */
 pel_report pel_delay(uint64_t taps);
 
 /* ---- Low-pass filters ------------------------------------------------------------------------- */

@@ -402,9 +402,14 @@ def print_readme():
     yield f"number 0, middle tap {show(lowpass(1000, 8000, hamming, 31)[15], 6)}"
 
 
+def half_samples(taps):
+    """The delay of taps that mirror about their middle: twice their mean place, each tap weighed by its value."""
+    return 2 * sum(i * x for i, x in enumerate(taps)) / sum(taps)
+
+
 def print_lowpass():
     taps = lowpass(1000, 8000, hamming, 7)
-    yield f"{len(taps)} taps, a delay of {(len(taps) - 1) // 2} samples"
+    yield f"{len(taps)} taps, a delay of {show(half_samples(taps), 0)} half samples"
     yield from taps_and_sum(taps)
     yield refused_range("a cutoff of {} isn't between {} and {}", refusal_of(lowpass, 4000, 8000, hamming, 7))
     if refusal_of(lowpass, 1000, 8000, hann, 2).number == 10:
@@ -463,6 +468,9 @@ def print_channelizer():
     branch = -(-needed // 16)
     taps = channelizer(16, branch, *edges)
     yield f"{needed} taps needed, {branch} a branch: {len(taps)}"
+    delay = half_samples(taps)
+    came_in = show(1000 - delay / 2, 1)
+    yield f"a delay of {show(delay, 0)} half samples: what comes out at sample 1000 came in at {came_in}"
     sums = [show(sum(taps[k::16]), 4) for k in range(16)]
     yield " ".join(sums[:8])
     yield " ".join(sums[8:])

@@ -16,7 +16,7 @@ int main(void)
     pel_report r = pel_lowpass(cutoff, rate, PEL_HAMMING, 0.0, bytes, sizeof bytes);
     if (r.number != PEL_ACCEPTED)
         return (int)r.number;
-    printf("%" PRIu64 " taps, a delay of %" PRIu64 " samples\n", r.count, pel_delay(r.count).count);
+    printf("%" PRIu64 " taps, a delay of %" PRIu64 " half samples\n", r.count, pel_delay(r.count).count);
 
     double sum = 0.0;
     for (size_t i = 0; i < TAPS; i++) {

@@ -39,9 +39,9 @@ static void formulas(void)
     PLAIN(pel_halfband_len(1, 3, 1), 4);
     PLAIN(pel_halfband_len(quiet, 60, 1), 3);
 
-    expect_count("delay(1)", pel_delay(1).count, 0);
-    expect_count("delay(32)", pel_delay(32).count, 15);
-    expect_count("delay of the largest count", pel_delay(UINT64_MAX).count, UINT64_MAX / 2);
+    expect_count("half samples of 1", pel_delay(1).count, 0);
+    expect_count("half samples of 32", pel_delay(32).count, 31);
+    expect_count("half samples of the largest count", pel_delay(UINT64_MAX).count, UINT64_MAX - 1);
     PLAIN(pel_delay(0), 6);
 }
 
@@ -150,12 +150,17 @@ static void formula_examples(void)
     EXPECT(pel_kaiser_beta(21), 0.0);
     expect_count("1000 at 48000", r.count, 177);
 
-    /* By hand: the series of either zero is its first term, and the delay is (taps - 1)/2, rounded down. */
+    /* By hand: the series of either zero is its first term. */
     r = pel_bessel_i0(-0.0);
     expect("I0(-0)", r.value, 1.0);
     expect_count("I0(-0) terms", r.count, 1);
-    REPORT(pel_delay(2), counted(0));
-    REPORT(pel_delay(31), counted(15));
+
+    /* Half samples by hand, from the place about which the taps mirror: between both of two taps, on the middle one of
+     * 31, between the middle two of a channelizer's 128. No f64 holds 2^53 + 1. */
+    REPORT(pel_delay(2), counted(1));
+    REPORT(pel_delay(31), counted(2 * 15));
+    REPORT(pel_delay(128), counted(63 + 64));
+    REPORT(pel_delay((UINT64_C(1) << 53) + 2), counted((UINT64_C(1) << 53) + 1));
 }
 
 static void lowpass_examples(void)

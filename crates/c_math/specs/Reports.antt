@@ -1,4 +1,4 @@
--- What is told of Kaiser's estimate, of a delay and of a Q15 or Q14 number. Definitions only.
+-- What is told of Kaiser's estimate, of a delay in half samples and of a Q15 or Q14 number. Definitions only.
 use lib.Ieee.{binary64, ofInt}
 use Rattle.laws.specs.Binary64.{whole}
 use Rattle.verdict.specs.declared.Report.{Report}
@@ -15,9 +15,9 @@ abbrev pub orderReport : Order → Report
 orderReport (Order.Taps n beta) = acceptedOf n beta
 orderReport (Order.Refused why) = reportOf why
 
--- samples
+-- half samples
 abbrev pub delayReport : Delayed → Report
-delayReport (Delayed.Samples n) = acceptedOf n (whole 0)
+delayReport (Delayed.HalfSamples n) = acceptedOf n (whole 0)
 delayReport (Delayed.Refused why) = reportOf why
 
 -- a Q15 or Q14 number

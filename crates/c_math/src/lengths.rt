@@ -1,4 +1,4 @@
-// How many taps a design needs and how long it delays, as exports on numbers.
+// How many taps a design needs and by how many half samples it delays, as exports on numbers.
 use fir_delay::Delayed;
 use fir_length::order::Order;
 use verdict::Report;
@@ -32,15 +32,15 @@ pub extern "C" fn pel_halfband_len(transition: f64, attenuation: f64, rate: f64)
     told_length(fir_length::order::halfband_len(transition, attenuation, rate))
 }
 
-// The delay of a linear-phase filter of so many taps, in samples, as the count: (taps − 1)/2 rounded down. Refused: 6
-// for 0 taps. Example: 293 taps delay by 146.
+// The half samples that a linear-phase filter of so many taps delays by, as the count: taps − 1. Refused: 6 for 0 taps.
+// Example: 128 taps delay by 127 half samples, which is 63.5 samples.
 #[no_mangle]
 pub extern "C" fn pel_delay(taps: u64) -> Report
     ensures { λ r. ⌜ r ≡ delayReport (delayOf taps) ⌝ }
 {
     let delayed = fir_delay::delay(taps);
     match delayed {
-        Delayed::Samples(n) => verdict::accepted(n, 0.0),
+        Delayed::HalfSamples(n) => verdict::accepted(n, 0.0),
         Delayed::Refused(why) => verdict::refused(why),
     }
 }

@@ -1,4 +1,5 @@
-// Lengths, the delay and single numbers: the number is 0 exactly where there is one, else one of the refusals'.
+// Lengths, the delay and single numbers: the number is 0 exactly where there is one, else one of the refusals'. A delay
+// keeps its half besides.
 use verdict::Report;
 ghost use mathlib.Core.Path.{_≡_};
 ghost use Rattle.fir_length.specs.Kaiser.{orderOf, halfbandLenOf};
@@ -9,6 +10,7 @@ ghost use Rattle.fir_channelizer.specs.Channelizer.{channelizerTapsOf, branchOf
 ghost use Rattle.fmt_q15.specs.Q15.{q15TapOf};
 ghost use Rattle.fmt_q14.specs.Q14.{q14TapOf};
 ghost use Rattle.c_lowpass.specs.Spec.{specOf};
+ghost use Rattle.c_math.specs.Delays.{KeepsHalf};
 ghost use Rattle.promise_refusals.specs.Demand.{Numbered};
 ghost use Rattle.promise_refusals.specs.Verdicts.{ofLength, ofOrder, ofDelay, ofCoded};
 
@@ -25,7 +27,7 @@ pub fn halfband_len(transition: f64, attenuation: f64, rate: f64) -> Report
 }
 
 pub fn delay(taps: u64) -> Report
-    ensures { λ r. ⌜ Numbered (ofDelay (delayOf taps)) (r .number) ⌝ }
+    ensures { λ r. ⌜ Numbered (ofDelay (delayOf taps)) (r .number) ⌝ ∗ ⌜ KeepsHalf taps r ⌝ }
 {
     c_math::lengths::pel_delay(taps)
 }

@@ -116,7 +116,7 @@ order-heard (Order.Refused why) = refl
 
 pub delay-heard : (d : Delayed) → delayReport d .number ≡ heard (ofDelay d)
 unfolding acceptedOf
-delay-heard (Delayed.Samples n) = refl
+delay-heard (Delayed.HalfSamples n) = refl
 delay-heard (Delayed.Refused why) = refl
 
 pub coded-heard : (c : Coded) → codedReport c .number ≡ heard (ofCoded c)

@@ -27,7 +27,7 @@ ofOrder (Order.Taps n beta) = Done
 ofOrder (Order.Refused why) = Refused why
 
 abbrev pub ofDelay : Delayed → Verdict
-ofDelay (Delayed.Samples n) = Done
+ofDelay (Delayed.HalfSamples n) = Done
 ofDelay (Delayed.Refused why) = Refused why
 
 abbrev pub ofCoded : Coded → Verdict

@@ -1,4 +1,4 @@
-//! Kaiser's formulas: the series, beta, the number of taps; and the delay of a filter.
+//! Kaiser's formulas: the series, beta, the number of taps; and the delay of a filter, in half samples.
 
 use crate::Error;
 use crate::raw;
@@ -61,7 +61,12 @@ pub fn kaiserord(ripple: f64, transition: f64, rate: f64) -> Result<(u64, f64), 
     Ok((report.count, report.value))
 }
 
-/// The delay of a linear-phase filter in samples: (taps - 1)/2, rounded down.
+/// Half samples, two of which are a sample: the unit of a [`delay`], as a type so that it isn't taken for samples.
+#[derive(Clone, Copy, Debug, Default, PartialEq, Eq, PartialOrd, Ord, Hash)]
+pub struct HalfSamples(pub u64);
+
+/// Half samples that a linear-phase filter delays by: taps - 1, so that the half of an even length is kept, for
+/// every count.
 ///
 /// # Errors
 ///
@@ -70,9 +75,18 @@ pub fn kaiserord(ripple: f64, transition: f64, rate: f64) -> Result<(u64, f64), 
 /// # Examples
 ///
 /// ```
-/// assert_eq!(peldozkar::delay(31), Ok(15));
-/// assert!(peldozkar::delay(0).is_err());
+/// # fn main() -> Result<(), peldozkar::Error> {
+/// use peldozkar::{HalfSamples, delay};
+///
+/// assert_eq!(delay(31)?, HalfSamples(30)); // 15 samples
+/// let HalfSamples(half_samples) = delay(128)?; // a channelizer's prototype is even
+/// assert_eq!(half_samples, 127);
+/// // What comes out at sample 1000 came in 63.5 samples before.
+/// assert_eq!(1000.0 - half_samples as f64 / 2.0, 936.5);
+/// assert!(delay(0).is_err());
+/// # Ok(())
+/// # }
 /// ```
-pub fn delay(taps: u64) -> Result<u64, Error> {
-    raw::pel_delay(taps).counted()
+pub fn delay(taps: u64) -> Result<HalfSamples, Error> {
+    raw::pel_delay(taps).counted().map(HalfSamples)
 }

@@ -89,7 +89,7 @@ pub use elementary::{ceil, cos, exp, fabs, floor, pow04, sin, sqrt};
 pub use error::{Carried, Error, Reason};
 pub use formats::{q14_from_f64, q15_from_f64, q15_tap, to_f32, to_f32_sos, to_q14, to_q15};
 pub use halfband::{halfband, halfband_len, halfband_new};
-pub use kaiser::{Series, bessel_i0, delay, kaiser_beta, kaiserord};
+pub use kaiser::{HalfSamples, Series, bessel_i0, delay, kaiser_beta, kaiserord};
 pub use lowpass::{Design, Spec, Window, lowpass, lowpass_new};
 pub use pulses::{Rrc, gaussian, gaussian_new, rrc, rrc_len, rrc_new};
 pub use sections::{Response, biquad_coefs, butterworth_sos, preemphasis_coefs};

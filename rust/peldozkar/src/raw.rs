@@ -112,7 +112,7 @@ pub struct Report {
     pub given: u64,
     /// The index of the element.
     pub index: u64,
-    /// Accepted: the number of taps, terms, samples or elements.
+    /// Accepted: the number of taps, terms, half samples, samples or elements.
     pub count: u64,
     /// Accepted: a divisor, a factor, a beta, a sum, or a Q15 or Q14 number.
     pub value: f64,

@@ -42,7 +42,7 @@ mod border {
         pub safe fn pel_kaiserord(ripple: f64, transition: f64, rate: f64) -> Report;
         /// The taps of a half-band filter.
         pub safe fn pel_halfband_len(transition: f64, attenuation: f64, rate: f64) -> Report;
-        /// The delay of a linear-phase filter.
+        /// Half samples that a linear-phase filter delays by.
         pub safe fn pel_delay(taps: u64) -> Report;
         /// A low-pass, judged without a buffer.
         pub safe fn pel_lowpass_new(

@@ -6,8 +6,8 @@ use std::mem::offset_of;
 
 use peldozkar::raw::{self, GainReport, Report};
 use peldozkar::{
-    Response, Rrc, Series, Spec, Symmetry, Window, bessel_i0, biquad_coefs, blackman_harris,
-    butterworth_sos, channelizer_lowpass, channelizer_prototype, channelizer_taps,
+    HalfSamples, Response, Rrc, Series, Spec, Symmetry, Window, bessel_i0, biquad_coefs,
+    blackman_harris, butterworth_sos, channelizer_lowpass, channelizer_prototype, channelizer_taps,
     channelizer_taps_per_branch, delay, gaussian, gaussian_new, halfband, halfband_len,
     halfband_new, hann, kaiser, kaiser_beta, kaiserord, lowpass, lowpass_new, preemphasis_coefs,
     q14_from_f64, q15_from_f64, q15_tap, rrc, rrc_len, rrc_new, to_f32, to_f32_sos, to_q14, to_q15,
@@ -99,7 +99,10 @@ fn kaisers_formulas() {
     assert_eq!((taps, beta), (report.count, report.value));
     let report = raw::pel_halfband_len(300.0, 70.0, 9000.0);
     assert_eq!(halfband_len(300.0, 70.0, 9000.0), Ok(report.count));
-    assert_eq!(delay(u64::MAX), Ok(u64::MAX / 2));
+    for taps in [1, 2, 31, 128, 1 << 53, (1 << 53) + 1, u64::MAX] {
+        assert_eq!(delay(taps), Ok(HalfSamples(taps - 1)));
+        assert_eq!(raw::pel_delay(taps).count, taps - 1);
+    }
 }
 
 #[test]

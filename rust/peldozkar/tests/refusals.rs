@@ -478,7 +478,9 @@ fn empty_slices() {
 
 #[test]
 fn in_words() {
-    let told = |answer: Result<u64, Error>| answer.unwrap_err().to_string();
+    fn told<T: std::fmt::Debug>(answer: Result<T, Error>) -> String {
+        answer.unwrap_err().to_string()
+    }
     assert_eq!(
         told(delay(0)),
         "refused with 6: a count of taps, orders, symbols, samples, channels or branches can't be taken"

@@ -1,10 +1,10 @@
 -- `fir_delay::delay` meets its contract. Assumes nothing.
 use borrow.Author.Needs.{needs}
 use mathlib.Core.Path.{_≡_, refl, sym, ap}
-use Prim.Native.Nat.{ℕ, zero, suc, _-_, _/_}
+use Prim.Native.Nat.{ℕ, zero, suc, _-_}
 use native.Mathlib.Omega.{arith}
 use Rattle.fir_delay.specs.Delay.{delayOf}
-use Rattle.fir_delay.specs.declared.Delayed.the-variants.{Samples}
+use Rattle.fir_delay.specs.declared.Delayed.the-variants.{HalfSamples}
 use Rattle.fir_delay.proofs.delay.Statement.{statement}
 use Rattle.fir_delay.proofs.delay.Tie as tie
 
@@ -15,10 +15,10 @@ returns : tie.Need-returns
 unfolding delayOf
 returns c = sym (ap delayOf (c .if1 .taken))
 
-some : (n : ℕ) → (n ≡ 0 → ⊥) → Samples ((n - 1) / 2) ≡ delayOf n
+some : (n : ℕ) → (n ≡ 0 → ⊥) → HalfSamples (n - 1) ≡ delayOf n
 unfolding delayOf
 some zero h = absurd (h refl)
-some (suc n) h = ap (λ (k : ℕ). Samples (k / 2)) (go n)
+some (suc n) h = ap HalfSamples (go n)
   where
     go : (n : ℕ) → suc n - 1 ≡ n
     go n = omega arith

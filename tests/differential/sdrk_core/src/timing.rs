@@ -1,4 +1,4 @@
-//! Stubs of the timing types that channelize.rs names and that no comparison uses.
+//! Stubs of the timing types that channelize.rs names; of them only the delay is compared.
 
 use sdrk_device::Ratio;
 

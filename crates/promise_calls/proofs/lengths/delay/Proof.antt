@@ -1,10 +1,12 @@
--- `promise_calls::lengths::delay` meets its contract: what its export ensures, by demand 1. Assumes nothing.
+-- `promise_calls::lengths::delay` meets its contract: what its export ensures, by demand 1 and since the half is kept.
+-- Assumes nothing.
 use Rattle.fir_delay.specs.Delay.{delayOf}
+use Rattle.c_math.specs.Delays.{KeepsHalf, half-kept}
 use Rattle.promise_refusals.specs.Judgements.{delay-listed}
 use Rattle.promise_refusals.specs.Listed.{numbered, delay-heard}
 use Rattle.promise_refusals.specs.Verdicts.{ofDelay}
 use Rattle.verdict.specs.declared.Report.{Report}
-use mathlib.Core.Path.{ap, _∙_}
+use mathlib.Core.Path.{sym, ap, _∙_, subst}
 use borrow.Author.Needs.{needs}
 use Rattle.promise_calls.proofs.lengths.delay.Statement.{statement}
 use Rattle.promise_calls.proofs.lengths.delay.Tie as tie
@@ -16,7 +18,8 @@ returns : tie.Need-returns
 returns c =
     let a = c .before .args in
     let d = delayOf (a .taps) in
-    numbered (ofDelay d) (ap (λ (r : Report). r .number) (c .pel-delay .ensures) ∙ delay-heard d) (delay-listed (a .taps))
+    let told = c .pel-delay .ensures in
+    (numbered (ofDelay d) (ap (λ (r : Report). r .number) told ∙ delay-heard d) (delay-listed (a .taps)), subst (KeepsHalf (a .taps)) (sym told) (half-kept (a .taps)))
 
 pub delay-spec : {M : Type 1} → statement M
 delay-spec = tie.close (tie.spec pel-delay-requires returns)

@@ -184,10 +184,18 @@ pub const FAULTS: &[Fault] = faults![
         let [_, transition, rate] = order(ticket);
         swapped(ticket, buffer, 4, width_refused(transition, rate))
     };
-    Delay, "half a sample rounded up", |ticket, buffer| {
+    Delay, "whole samples", |ticket, buffer| {
+        let report = right(ticket, buffer);
+        Report { count: report.count / 2, ..report }
+    };
+    Delay, "whole samples, counted as halves", |ticket, buffer| {
+        let report = right(ticket, buffer);
+        Report { count: report.count / 2 * 2, ..report }
+    };
+    Delay, "a half sample for each tap", |ticket, buffer| {
         let report = right(ticket, buffer);
         match *ticket {
-            Ticket::Delay { taps } if taps > 0 => Report { count: taps / 2, ..report },
+            Ticket::Delay { taps } => Report { count: taps, ..report },
             _ => report,
         }
     };

@@ -72,6 +72,6 @@ pub const KINDS: &[About] = &[
         refusals: &[(6, PLAIN)],
         totals: false,
         cases: &[case!("the largest count", |_, report| report.count
-            == u64::MAX / 2)],
+            == u64::MAX - 1)],
     },
 ];

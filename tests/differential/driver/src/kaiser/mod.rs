@@ -1,4 +1,4 @@
-//! The Rust's answers to the series and to Kaiser's formulas, and the scope document's to the delay.
+//! The Rust's answers to the series and to Kaiser's formulas, and the request's to the delay in half samples.
 
 pub mod faults;
 pub mod inputs;
@@ -52,10 +52,11 @@ pub fn halfband_length(transition: f64, attenuation: f64, rate: f64) -> Report {
     counted(halfband_len(transition, attenuation, rate))
 }
 
-/// The scope document's delay.
+/// The request's delay in half samples. design.rs has none; that of the Rust's channelizers, which is a fraction of
+/// samples, is held to this by the known answers.
 pub fn delay(taps: u64) -> Report {
     match taps {
         0 => Report::plain(6),
-        _ => Report::accepted((taps - 1) / 2, 0.0),
+        _ => Report::accepted(taps - 1, 0.0),
     }
 }

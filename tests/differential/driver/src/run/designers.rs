@@ -136,7 +136,7 @@ pub fn lent(
 }
 
 /// The Rust side's answer. What isn't in the Rust (the border's codes and byte lengths, the number
-/// of terms, the delay) is from the scope document.
+/// of terms) is from the scope document, and the delay from its request.
 pub fn rust(ticket: &Ticket) -> Answer {
     match *ticket {
         Ticket::BesselI0 { x } => kaiser::rust_series(x).into(),

@@ -2,12 +2,39 @@
 
 use sdrk_blocks::access::Lowpass;
 use sdrk_blocks::design::{DesignWindow, halfband_len, kaiserord, rrc_len};
-use sdrk_core::kernels::channelize::{MAX_CHANNELS, MIN_CHANNELS};
+use sdrk_core::C32;
+use sdrk_core::kernels::channelize::{
+    ChannelizeState, MAX_CHANNELS, MAX_TAPS_PER_BRANCH, MIN_CHANNELS, MIN_TAPS_PER_BRANCH,
+};
 use sdrk_core::num::q14_from_f64;
+use sdrk_core::timing::{Delay, Timing};
 use sdrk_core::window::bessel_i0;
 
 use crate::run::designers::rust;
 use crate::run::tickets::{Band, Channels, Pulse, Source, Spec, Ticket};
+
+/// Whether the Rust's channelizer tells as many halves of a sample as its delay has half samples.
+fn tells_half_samples(channels: usize, branch: usize) -> bool {
+    let taps = channels * branch;
+    let zeros = |n| vec![C32::new(0.0, 0.0); n];
+    let half_samples = rust(&Ticket::Delay { taps: taps as u64 }).report.count;
+    ChannelizeState::<C32, _, _, _>::new(
+        vec![0.0; taps],
+        channels,
+        zeros(taps),
+        zeros(channels / 2),
+    )
+    .is_ok_and(|state| Some(state.group_delay()) == Delay::new(half_samples, 2))
+}
+
+/// Of every prototype that a channelizer takes.
+fn prototypes_tell_half_samples() -> bool {
+    let mut channels = (MIN_CHANNELS..=MAX_CHANNELS).filter(|channels| channels.is_power_of_two());
+    channels.all(|channels| {
+        let mut branches = MIN_TAPS_PER_BRANCH..=MAX_TAPS_PER_BRANCH;
+        branches.all(|branch| tells_half_samples(channels, branch))
+    })
+}
 
 /// Prints one line; true if every answer is the one expected.
 pub fn run() -> bool {
@@ -65,6 +92,7 @@ pub fn run() -> bool {
         one_tap.is_ok_and(|lowpass| lowpass.tap(0) == 1.0 && lowpass.divisor() == 0.5),
         Lowpass::new(0.25, 1.0, DesignWindow::Hann, 2).is_err(),
         (MIN_CHANNELS, MAX_CHANNELS) == (4, 256),
+        prototypes_tell_half_samples(),
         rust(&Ticket::BesselI0 { x: 0.0 }).report.count == 1,
         (spec(8000.0).number, spec(8000.0).expected) == (9, 293),
         spec(-8000.0).number == 1,

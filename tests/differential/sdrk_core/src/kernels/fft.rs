@@ -27,9 +27,15 @@ pub struct FftPlan<T, Tw> {
 }
 
 impl<T, Tw: AsRef<[T]>> FftPlan<T, Tw> {
-    /// The stub has no plans.
-    pub fn new(_n: usize, _twiddles: Tw) -> Result<Self> {
-        Err(Error::Internal("a stub"))
+    /// A plan that transforms nothing: a channelizer can be made with it and told its delay.
+    pub fn new(n: usize, twiddles: Tw) -> Result<Self> {
+        Ok(Self {
+            n,
+            log2n: n.trailing_zeros(),
+            twiddles,
+            tw_stride: 1,
+            _sample: PhantomData,
+        })
     }
 
     #[allow(clippy::len_without_is_empty)]

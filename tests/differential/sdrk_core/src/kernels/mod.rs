@@ -1,4 +1,4 @@
-//! The kernels: channelize.rs for its four limits, and what it names of the transform.
+//! The kernels: channelize.rs for its four limits and its delay, and what it names of the transform.
 
 pub mod fft;
 
