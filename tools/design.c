@@ -294,8 +294,8 @@ static int judge_together(const struct kind *k, const struct ticket *t)
     unsigned forms = t->given & form_options(k->forms);
     if (option_of(forms, 1) != NULL)
         return complain(k->name, "%s and %s exclude each other", option_of(forms, 0), option_of(forms, 1));
-    if ((t->given & GAIN) != 0 && t->form != AS_TEXT)
-        return complain(k->name, "--gain is text, and goes with no other --form");
+    if (form_for(k->forms, t->given)->instead != NULL && t->form != AS_TEXT)
+        return complain(k->name, "%s is text, and goes with no other --form", option_of(forms, 0));
     if ((t->given & ARRAY) != 0 && t->form != AS_C)
         return complain(k->name, "--name goes with --form c only");
     if ((t->given & OUT) != 0 && (t->given & PLOT) != 0 && strcmp(t->out, t->plot) == 0)

@@ -1,6 +1,8 @@
-/* The forms that numbers come in: as text one number a line, and for a window also what it does; as C an array. */
+/* The forms that numbers come in: as text one number a line, and for a window also what it does, for taps how long they
+ * delay; as C an array. */
 #include "forms.h"
 
+#include <inttypes.h>
 #include <math.h>
 #include <stdbool.h>
 #include <stdlib.h>
@@ -19,11 +21,6 @@ static double read_f32(const char *text)
 {
     return strtof(text, NULL);
 }
-
-/* Room for any number that is said. */
-struct words {
-    char text[40];
-};
 
 /* The fewest digits, but at least so many, that `read` takes back to the number, so that 0.2 is said as 0.2.
  * A NaN's sign is free, and isn't said. */
@@ -81,6 +78,14 @@ static void say_float(FILE *to, double x)
     say_constant(to, x, fewest(x, 6, read_f32), "f");
 }
 
+struct words samples_of(uint64_t half_samples)
+{
+    struct words w;
+    snprintf(w.text, sizeof w.text, "%" PRIu64 "%s sample%s", half_samples / 2, half_samples % 2 == 1 ? ".5" : "",
+             half_samples == 2 ? "" : "s");
+    return w;
+}
+
 /* ---- From bytes -------------------------------------------------------------------------------- */
 
 /* Little-endian bytes as bits, whatever the machine's own order. */
@@ -125,6 +130,13 @@ static void say_gain(FILE *to, const uint8_t *bytes, size_t n)
     fputc('\n', to);
 }
 
+/* Of the filter that was designed, so there is a tap. */
+static void say_delay(FILE *to, const uint8_t *bytes, size_t n)
+{
+    (void)bytes;
+    fprintf(to, "delay %s\n", samples_of(pel_delay(n).count).text);
+}
+
 /* ---- The forms --------------------------------------------------------------------------------- */
 
 static const struct number f64 = {8, "double", 4, NULL, 1.0, f64_at, say_f64, say_double};
@@ -139,6 +151,8 @@ const struct form tap_forms[] = {
     {0, 8, 0, NULL, &f64, NULL},
     {Q15, 8, 2, pel_to_q15, &q15, NULL},
     {F32, 8, 4, pel_to_f32, &f32, NULL},
+    /* The taps are filled in all the same: what is refused has no delay. */
+    {DELAY, 8, 0, NULL, &f64, say_delay},
     {0, 0, 0, NULL, NULL, NULL},
 };
 

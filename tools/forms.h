@@ -9,6 +9,11 @@
 
 #include "peldozkar.h"
 
+/* Room for any number that is said. */
+struct words {
+    char text[40];
+};
+
 /* A format of numbers in bytes. */
 struct number {
     size_t bytes;
@@ -50,5 +55,8 @@ void worth(const struct form *f, const uint8_t *bytes, size_t n, double *out);
 
 /* With the fewest digits that still name the number. */
 void say_number(FILE *to, double x);
+
+/* Half samples in samples, with the half: 127 as 63.5 samples. */
+struct words samples_of(uint64_t half_samples);
 
 #endif

@@ -7,7 +7,8 @@
 #define RATE_HELP "  --rate HZ          samples a second; finite and above 0\n"
 #define TAP_HELP                                                                                                       \
     "  --q15              16-bit whole numbers in which 1 is 32768; no tap may be beyond 1.00997\n"                    \
-    "  --f32              the nearest floats instead of doubles\n"
+    "  --f32              the nearest floats instead of doubles\n"                                                     \
+    "  --delay            samples, with the half, by which the filter delays, instead of its taps\n"
 #define SECTION_HELP                                                                                                   \
     "  --q14              16-bit whole numbers in which 1 is 16384; from -2 to just below 2\n"                         \
     "  --f32              the nearest floats instead of doubles\n"

@@ -8,6 +8,7 @@
 #include <stdlib.h>
 #include <string.h>
 
+#include "forms.h"
 #include "peldozkar.h"
 
 static const double half_power = -3.0102999566398120; /* dB */
@@ -46,6 +47,15 @@ static void mark_stopband(struct picture *p, double from, double attenuation)
 {
     mark(p, LEVEL, from, -attenuation, "attenuation -%.6g dB", attenuation);
     p->deepest = -attenuation - 30.0;
+}
+
+/* A filter that delays every tone alike delays it by as much as lies before the middle of its taps. */
+static void mark_delay(struct picture *p, size_t taps)
+{
+    uint64_t half_samples = pel_delay(taps).count;
+    p->delay.shape = AT;
+    p->delay.from = p->delay.to = (double)half_samples / 2.0;
+    snprintf(p->delay.label, sizeof p->delay.label, "delay %s", samples_of(half_samples).text);
 }
 
 static void name_axis(struct picture *p, double scale, double last, const char *axis, const char *unit)
@@ -272,6 +282,8 @@ static const char *draw_taps(FILE *to, const struct subject *s, struct picture *
         return no_memory;
     p->samples = s->numbers;
     p->n = s->n;
+    if (s->parts == TAP_PARTS)
+        mark_delay(p, s->n);
     const char *wrong = draw_finite(to, s, p, &r);
     free_response(&r);
     return wrong;

@@ -125,6 +125,59 @@ static void put_frame(FILE *to, const struct panel *p)
             p->bottom - p->top);
 }
 
+/* ---- Marks ------------------------------------------------------------------------------------- */
+
+static void put_mark(FILE *to, const struct panel *at, const struct mark *m, const char *colour)
+{
+    double x = held(across(at, m->from), LEFT, RIGHT);
+    if (m->from > at->x1)
+        return;
+    switch (m->shape) {
+    case AT:
+        fprintf(to, "<path class=\"mark\" stroke=\"%s\" d=\"M%.1f,%.1fV%.1f\"/>\n", colour, x, at->top, at->bottom);
+        break;
+    case BETWEEN:
+        fprintf(to, "<rect class=\"band\" fill=\"%s\" x=\"%.1f\" y=\"%.1f\" width=\"%.1f\" height=\"%.1f\"/>\n", colour,
+                x, at->top, held(across(at, m->to), LEFT, RIGHT) - x, at->bottom - at->top);
+        break;
+    case LEVEL:
+        fprintf(to, "<path class=\"mark\" stroke=\"%s\" clip-path=\"url(#inside)\" d=\"M%.1f,%.1fH%d\"/>\n", colour, x,
+                down(at, m->to), RIGHT);
+        break;
+    }
+}
+
+/* A small piece of the mark, and what it is. */
+static void put_key(FILE *to, double x, double y, const struct mark *m, const char *colour)
+{
+    if (m->shape == BETWEEN)
+        fprintf(to, "<rect class=\"band\" fill=\"%s\" x=\"%.1f\" y=\"%.1f\" width=\"20\" height=\"11\"/>\n", colour, x,
+                y - 9.5);
+    else if (m->shape == AT)
+        fprintf(to, "<path class=\"mark\" stroke=\"%s\" d=\"M%.1f,%.1fV%.1f\"/>\n", colour, x + 14, y - 11, y + 3);
+    else
+        fprintf(to, "<path class=\"mark\" stroke=\"%s\" d=\"M%.1f,%.1fH%.1f\"/>\n", colour, x, y - 4, x + 20);
+    put_text(to, x + 26, y, "class=\"key\"", m->label);
+}
+
+/* No font tells its widths here: the widest of the usual ones, about. */
+static double width_of(const char *text)
+{
+    return 6.7 * (double)strlen(text) + 4.0;
+}
+
+/* In the line above the panel, as far right as they go. */
+static void put_keys(FILE *to, const struct panel *at, const struct mark *marks, size_t n, const char *const *colour)
+{
+    double x = RIGHT;
+    for (size_t k = 0; k < n; k++)
+        x -= 26 + width_of(marks[k].label) + (k == 0 ? 0 : 14);
+    for (size_t k = 0; k < n; k++) {
+        put_key(to, x, at->top - 10, &marks[k], colour[k]);
+        x += 26 + width_of(marks[k].label) + 14;
+    }
+}
+
 /* ---- Stems ------------------------------------------------------------------------------------- */
 
 /* The range of the samples and 0, with some air. */
@@ -169,6 +222,11 @@ static void draw_samples(FILE *to, const struct picture *p)
     put_text(to, LEFT, at.top - 10, "class=\"panel\"", p->stems);
     put_axes(to, &at, fmax(1.0, step_for((double)p->n, 10)), step_for(at.y1 - at.y0, 5), p->index, "amplitude");
     fprintf(to, "<path class=\"zero\" d=\"M%d,%.1fH%d\"/>\n", LEFT, down(&at, 0.0), RIGHT);
+    if (p->delay.label[0] != '\0') {
+        const char *const *last = &colours[MARKS - 1];
+        put_mark(to, &at, &p->delay, *last);
+        put_keys(to, &at, &p->delay, 1, last);
+    }
     put_stems(to, &at, p);
     put_frame(to, &at);
 }
@@ -289,59 +347,6 @@ static void put_curve(FILE *to, const struct panel *at, const struct picture *p)
     fputs("\"/>\n", to);
 }
 
-/* ---- What was asked for ------------------------------------------------------------------------ */
-
-static void put_mark(FILE *to, const struct panel *at, const struct mark *m, const char *colour)
-{
-    double x = held(across(at, m->from), LEFT, RIGHT);
-    if (m->from > at->x1)
-        return;
-    switch (m->shape) {
-    case AT:
-        fprintf(to, "<path class=\"mark\" stroke=\"%s\" d=\"M%.1f,%.1fV%.1f\"/>\n", colour, x, at->top, at->bottom);
-        break;
-    case BETWEEN:
-        fprintf(to, "<rect class=\"band\" fill=\"%s\" x=\"%.1f\" y=\"%.1f\" width=\"%.1f\" height=\"%.1f\"/>\n", colour,
-                x, at->top, held(across(at, m->to), LEFT, RIGHT) - x, at->bottom - at->top);
-        break;
-    case LEVEL:
-        fprintf(to, "<path class=\"mark\" stroke=\"%s\" clip-path=\"url(#inside)\" d=\"M%.1f,%.1fH%d\"/>\n", colour, x,
-                down(at, m->to), RIGHT);
-        break;
-    }
-}
-
-/* A small piece of the mark, and what it is. */
-static void put_key(FILE *to, double x, double y, const struct mark *m, const char *colour)
-{
-    if (m->shape == BETWEEN)
-        fprintf(to, "<rect class=\"band\" fill=\"%s\" x=\"%.1f\" y=\"%.1f\" width=\"20\" height=\"11\"/>\n", colour, x,
-                y - 9.5);
-    else if (m->shape == AT)
-        fprintf(to, "<path class=\"mark\" stroke=\"%s\" d=\"M%.1f,%.1fV%.1f\"/>\n", colour, x + 14, y - 11, y + 3);
-    else
-        fprintf(to, "<path class=\"mark\" stroke=\"%s\" d=\"M%.1f,%.1fH%.1f\"/>\n", colour, x, y - 4, x + 20);
-    put_text(to, x + 26, y, "class=\"key\"", m->label);
-}
-
-/* No font tells its widths here: the widest of the usual ones, about. */
-static double width_of(const char *text)
-{
-    return 6.7 * (double)strlen(text) + 4.0;
-}
-
-/* In the line above the panel, as far right as they go. */
-static void put_keys(FILE *to, const struct panel *at, const struct picture *p)
-{
-    double x = RIGHT;
-    for (size_t k = 0; k < p->marked; k++)
-        x -= 26 + width_of(p->marks[k].label) + (k == 0 ? 0 : 14);
-    for (size_t k = 0; k < p->marked; k++) {
-        put_key(to, x, at->top - 10, &p->marks[k], colours[k]);
-        x += 26 + width_of(p->marks[k].label) + 14;
-    }
-}
-
 static void draw_magnitudes(FILE *to, const struct picture *p)
 {
     struct panel at = {.top = 424, .bottom = 684, .x0 = 0.0, .x1 = p->last};
@@ -358,7 +363,7 @@ static void draw_magnitudes(FILE *to, const struct picture *p)
                 put_mark(to, &at, &p->marks[k], colours[k]);
     put_curve(to, &at, p);
     put_frame(to, &at);
-    put_keys(to, &at, p);
+    put_keys(to, &at, p->marks, p->marked, colours);
 }
 
 /* ---- The whole --------------------------------------------------------------------------------- */

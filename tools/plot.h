@@ -8,7 +8,7 @@
 
 #include "response.h"
 
-/* What was asked for, drawn with the magnitudes and told in the line above them. */
+/* What was asked for, drawn with the magnitudes and told in the line above them; and a delay, with the stems. */
 struct mark {
     enum { AT, BETWEEN, LEVEL } shape; /* a frequency, a band, or a level from `from` on */
     double from, to;                   /* in the axis's unit; a level's dB in `to` */
@@ -29,6 +29,7 @@ struct picture {
     double deepest;          /* a level worth showing, beside those of the response; 0 where there is none */
     struct mark marks[MARKS];
     size_t marked;
+    struct mark delay; /* where the stems mirror, in samples; without a label where they don't */
 };
 
 /* One whole SVG file. The samples, one at least, and the response are finite. */

@@ -58,6 +58,7 @@ static const struct option {
     {"--q14", Q14, ALONE, 0, NULL},
     {"--f32", F32, ALONE, 0, NULL},
     {"--gain", GAIN, ALONE, 0, NULL},
+    {"--delay", DELAY, ALONE, 0, NULL},
     {"--form", FORM, NAME, offsetof(struct ticket, form), &forms},
     {"--name", ARRAY, IDENTIFIER, offsetof(struct ticket, array), NULL},
     {"--out", OUT, PATH, offsetof(struct ticket, out), NULL},

@@ -34,11 +34,12 @@ enum {
     Q14 = 1 << 23,
     F32 = 1 << 24,
     GAIN = 1 << 25,
+    DELAY = 1 << 26,
     /* How, and where to. */
-    FORM = 1 << 26,
-    ARRAY = 1 << 27,
-    OUT = 1 << 28,
-    PLOT = 1 << 29
+    FORM = 1 << 27,
+    ARRAY = 1 << 28,
+    OUT = 1 << 29,
+    PLOT = 1 << 30
 };
 
 /* The options that every kind has. */
