@@ -528,6 +528,32 @@ def long_ones(port):
                  gaussian_taps(bt, 2000, 8))
 
 
+# ---- delays -----------------------------------------------------------------------------------------
+
+def delays(port):
+    # SciPy's delay of taps at a frequency is the ratio of two complex sums by Horner's rule, of i h[i] and of h[i], and
+    # in half samples twice that. Over n taps such a sum errs by 2 sqrt(2) n u of the sum of its terms' sizes, at most
+    # n A for the places, A the sum of the taps' sizes; A is below 4 here, and the lower sum, the response, above a
+    # half: 2 * 2 sqrt(2) * 4 * 2 n^2 u. A half sample that was lost is eight orders above it.
+    def add(held, case, taps, cutoff):
+        points = np.linspace(0, np.pi * cutoff, 9)
+        theirs = 2 * signal.group_delay((taps, [1.0]), points)[1]
+        must(f"{case}: passes", np.abs(signal.freqz(taps, worN=points)[1]).min() > 0.5 and np.abs(taps).sum() < 4)
+        held.add(case, np.full(len(points), float(port.delay(len(taps)).count)), theirs)
+
+    bound = 46 * 1000 ** 2 * u
+    for name, more in (("delay, even", 0), ("delay, odd", 1)):
+        held = Held(name, "2 signal.group_delay", "absolute", bound)
+        for n in [2 * count(1, 499) + more for _ in range(150)] + [2 + more, 4 + more, 998 + more]:
+            code, cutoff = int(random.choice([HAMMING, KAISER])), random.uniform(0.01, 0.49)
+            case = f"{n} taps, {WINDOWS[code]}, cutoff {cutoff!r}"
+            add(held, case, port.made("lowpass", "<f8", n, cutoff, 1.0, code, 8.0), cutoff)
+    held = Held("delay, prototypes", "2 signal.group_delay", "absolute", bound)
+    for channels, branch in ((4, 4), (16, 8), (32, 5), (8, 31), (64, 15)):
+        taps = port.made("channelizer_prototype", "<f8", channels * branch, channels, branch, 0.5, 1.0, 60.0)
+        add(held, f"{channels} channels, branch {branch}", taps, 0.75 / channels)
+
+
 def main():
     parser = argparse.ArgumentParser()
     parser.add_argument("library")
@@ -536,7 +562,7 @@ def main():
     Held.wrong = words.wrong
     port = Port(words.library)
     for part in (elementary, kaiser, lowpass, halfband, channelizer, gaussian, rrc, sections, formats, windows,
-                 long_ones):
+                 long_ones, delays):
         part(port)
     if words.wrong and words.wrong not in [held.name for held in Held.rows]:
         sys.exit(f"no comparison is named {words.wrong!r}")

@@ -28,7 +28,7 @@ SIGNATURES = {
     "floor": (c_double, "d"), "ceil": (c_double, "d"), "fabs": (c_double, "d"), "sqrt": (c_double, "d"),
     "sin": (c_double, "d"), "cos": (c_double, "d"), "exp": (c_double, "d"), "pow04": (c_double, "d"),
     "bessel_i0": (Report, "d"), "kaiser_beta": (c_double, "d"), "kaiserord": (Report, "ddd"),
-    "halfband_len": (Report, "ddd"), "lowpass": (Report, "ddud>"),
+    "halfband_len": (Report, "ddd"), "delay": (Report, "u"), "lowpass": (Report, "ddud>"),
     "spec_num_taps": (Report, "ddddu"), "spec_design": (Report, "ddddu>"), "halfband": (Report, "d>"),
     "gaussian": (Report, "duu>"), "rrc": (Report, "duu>"), "channelizer_taps": (Report, "uddd"),
     "channelizer_taps_per_branch": (Report, "uddd"), "channelizer_prototype": (Report, "uuddd>"),
