@@ -23,8 +23,8 @@ int main(void)
         return (int)r.number;
     printf("%" PRIu64 " taps needed, %" PRIu64 " a branch: %zu\n", needed.count, branch.count, taps);
 
-    /* Half samples, since an even number of taps delays by a whole number of samples and a half. A time stamp that leaves
-     * the half out is half a sample off. */
+    /* Half samples, since an even number of taps delays by a whole number of samples and a half. A time stamp that
+     * leaves the half out is half a sample off. */
     uint64_t half_samples = pel_delay(taps).count;
     printf("a delay of %" PRIu64 " half samples: what comes out at sample 1000 came in at %.1f\n", half_samples,
            1000.0 - (double)half_samples / 2.0);

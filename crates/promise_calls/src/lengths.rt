@@ -1,5 +1,5 @@
-// Lengths, the delay and single numbers: the number is 0 exactly where there is one, else one of the refusals'. A delay
-// keeps its half besides.
+// Lengths, half samples of delay and single numbers: the number is 0 exactly where there is one, else one of the
+// refusals'. The half of a delay is kept besides.
 use verdict::Report;
 ghost use mathlib.Core.Path.{_≡_};
 ghost use Rattle.fir_length.specs.Kaiser.{orderOf, halfbandLenOf};

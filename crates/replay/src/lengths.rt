@@ -1,5 +1,5 @@
-// Kinds 11 to 15: Kaiser's shape, lengths and delays. A line has the arguments of an export and what it answers: a
-// report, and of beta its bits alone.
+// Kinds 11 to 15: Kaiser's shape, lengths and half samples of delay. A line has the arguments of an export and what it
+// answers: a report, and of beta its bits alone.
 use c_math::lengths;
 use c_math::shape;
 use replay_lines::line::WORDS;

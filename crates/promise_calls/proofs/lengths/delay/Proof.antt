@@ -19,7 +19,8 @@ returns c =
     let a = c .before .args in
     let d = delayOf (a .taps) in
     let told = c .pel-delay .ensures in
-    (numbered (ofDelay d) (ap (λ (r : Report). r .number) told ∙ delay-heard d) (delay-listed (a .taps)), subst (KeepsHalf (a .taps)) (sym told) (half-kept (a .taps)))
+    let number = ap (λ (r : Report). r .number) told ∙ delay-heard d in
+    (numbered (ofDelay d) number (delay-listed (a .taps)), subst (KeepsHalf (a .taps)) (sym told) (half-kept (a .taps)))
 
 pub delay-spec : {M : Type 1} → statement M
 delay-spec = tie.close (tie.spec pel-delay-requires returns)

@@ -1,4 +1,4 @@
-//! The tickets of the series, Kaiser's formulas and the delay: telling ones, and random ones with faults.
+//! The tickets of the series, Kaiser's formulas and half samples of delay: telling ones, and random ones with faults.
 
 use std::f64::consts::PI;
 

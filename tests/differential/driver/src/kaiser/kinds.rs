@@ -1,4 +1,4 @@
-//! What the series, Kaiser's formulas and the delay must meet.
+//! What the series, Kaiser's formulas and half samples of delay must meet.
 
 use crate::run::cases::{PLAIN, RANGE, case};
 use crate::run::kinds::About;

@@ -27,7 +27,7 @@ pub struct FftPlan<T, Tw> {
 }
 
 impl<T, Tw: AsRef<[T]>> FftPlan<T, Tw> {
-    /// A plan that transforms nothing: a channelizer can be made with it and told its delay.
+    /// A plan that transforms nothing: a channelizer can be made with it and asked for its delay.
     pub fn new(n: usize, twiddles: Tw) -> Result<Self> {
         Ok(Self {
             n,
