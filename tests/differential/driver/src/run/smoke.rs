@@ -1,4 +1,4 @@
-//! A few answers of the unchanged Rust files that the scope document gives, to show that they run.
+//! A few answers of the unchanged Rust files that the scope document and its requests give, to show that they run.
 
 use sdrk_blocks::access::Lowpass;
 use sdrk_blocks::design::{DesignWindow, halfband_len, kaiserord, rrc_len};
