@@ -23,6 +23,10 @@ unfoldable pub qualityTaken : Float → Bool
 qualityTaken q = lt (whole 0) q && finite q
 
 -- ---- the section
+-- w0
+abbrev pub w0Of : Float → Float → Float
+w0Of centre rate = whole 2 ⊗ pi ⊗ centre ⊘ rate
+
 -- b0, b1, b2 before the division
 abbrev pub numerator : Response → Float → Float → List Float
 numerator Lowpass c alpha = (whole 1 ⊖ c) ⊘ whole 2 ∷ (whole 1 ⊖ c) ∷ (whole 1 ⊖ c) ⊘ whole 2 ∷ []
@@ -48,7 +52,7 @@ zeros = whole 0 ∷ whole 0 ∷ whole 0 ∷ whole 0 ∷ whole 0 ∷ []
 unfoldable pub biquadOf : Response → Float → Float → Float → Biquad
 unfolding centreTaken qualityTaken sectionOf
 biquadOf r centre q rate =
-    let w0 = whole 2 ⊗ pi ⊗ centre ⊘ rate in
+    let w0 = w0Of centre rate in
     cond (centreTaken centre rate)
     (cond (qualityTaken q)
     (record { coefs = sectionOf r (cosOf w0) (sinOf w0 ⊘ (whole 2 ⊗ q)); verdict = Done })

@@ -1,2 +1,3 @@
 pub mod Butterworth
+pub mod EvenOrders
 pub mod SectionLaws

@@ -23,8 +23,8 @@ use Rattle.verdict.specs.Outcome as Outcome
 use Rattle.verdict.specs.declared.Verdict.the-variants as Verdict
 use Rattle.verdict.specs.declared.Refusal.{Refusal}
 use Rattle.verdict.specs.declared.Refusal.the-variants.{Plain, Range, Length}
-use Rattle.iir_biquad.specs.Biquad.{centreTaken, qualityTaken, sectionOf, biquadOf}
-use Rattle.iir_butterworth.specs.Butterworth.{responseTaken, orderTaken, qualityOf, coefAt, butterworthOf}
+use Rattle.iir_biquad.specs.Biquad.{centreTaken, qualityTaken, w0Of, sectionOf, biquadOf}
+use Rattle.iir_butterworth.specs.Butterworth.{responseTaken, orderTaken, sectionsOf, angleOf, qualityOf, firstOrderOf, sectionAt, coefAt, butterworthOf}
 use Rattle.iir_biquad.specs.declared.biquad.Response.{Response}
 use Rattle.iir_biquad.specs.declared.biquad.Response.the-variants.{Lowpass, Highpass, Bandpass, Notch}
 use Rattle.verdict.specs.declared.Verdict.the-variants.{Done}
@@ -68,66 +68,71 @@ section-five Highpass c alpha = refl
 section-five Bandpass c alpha = refl
 section-five Notch c alpha = refl
 
-pub coefs-five : (r : Response) (centre q rate : Float) → length (biquadOf r centre q rate .coefs) ≡ 5
+coefs-five : (r : Response) (centre q rate : Float) → length (biquadOf r centre q rate .coefs) ≡ 5
 unfolding biquadOf
 coefs-five r centre q rate =
     let five : Biquad → Type 0 = λ b. length (b .coefs) ≡ 5 in
     either-way five (centreTaken centre rate) _ _ (either-way five (qualityTaken q) _ _ (section-five r _ _) refl) refl
 
+first-order-five : (r : Response) (s d : Float) → length (firstOrderOf r s d) ≡ 5
+unfolding firstOrderOf
+first-order-five Lowpass s d = refl
+first-order-five Highpass s d = refl
+first-order-five Bandpass s d = refl
+first-order-five Notch s d = refl
+
+section-at-five : (r : Response) (order : ℕ) (cutoff rate : Float) (i : ℕ) → length (sectionAt r order cutoff rate i) ≡ 5
+unfolding sectionAt
+section-at-five r order cutoff rate i = either-way (λ (l : List Float). length l ≡ 5) (eqb order (2 * i + 1)) _ _ (first-order-five r _ _) (coefs-five r cutoff (qualityOf order i) rate)
+
 -- ---- a section in its place
-pub section-stored : (r : Response) (order : ℕ) (cutoff rate : Float) (i : ℕ) (d : List Float) → 5 * i + 5 ≤ length d → sets (filled (5 * i) (coefAt r order cutoff rate) d) (5 * i) (biquadOf r cutoff (qualityOf order i) rate .coefs) ≡ filled (5 * (i + 1)) (coefAt r order cutoff rate) d
+pub section-stored : (r : Response) (order : ℕ) (cutoff rate : Float) (i : ℕ) (d : List Float) → 5 * i + 5 ≤ length d → sets (filled (5 * i) (coefAt r order cutoff rate) d) (5 * i) (sectionAt r order cutoff rate i) ≡ filled (5 * (i + 1)) (coefAt r order cutoff rate) d
 section-stored r order cutoff rate i d h =
-    let vs = biquadOf r cutoff (qualityOf order i) rate .coefs in
-    let n : length vs ≡ 5 = coefs-five r cutoff (qualityOf order i) rate in
+    let vs = sectionAt r order cutoff rate i in
+    let n : length vs ≡ 5 = section-at-five r order cutoff rate i in
     let t : 5 * i + length vs ≡ 5 * (i + 1) = omega arith in
     fill-sets vs (5 * i) (coefAt r order cutoff rate) d nan (omega arith)
     (λ j k.
     let q : i ≡ (5 * i + j) / 5 = omega arith in
     let m : j ≡ (5 * i + j) % 5 = omega arith in
-    ap (λ (z : ℕ). getD (biquadOf r cutoff (qualityOf order z) rate .coefs) j nan) q ∙ ap (λ (z : ℕ). getD (biquadOf r cutoff (qualityOf order ((5 * i + j) / 5)) rate .coefs) z nan) m)
+    ap (λ (z : ℕ). getD (sectionAt r order cutoff rate z) j nan) q ∙ ap (λ (z : ℕ). getD (sectionAt r order cutoff rate ((5 * i + j) / 5)) z nan) m)
     ∙ ap (λ (k : ℕ). filled k (coefAt r order cutoff rate) d) t
 
 -- ---- an order that is taken
 pub record OrderIs (order : ℕ) : Type 0 where
   pub least : 2 ≤ order
   pub most : order ≤ 8
-  pub even : order % 2 ≡ 0
 
 pub order-is : (order : ℕ) → orderTaken order ≡ true → OrderIs order
 unfolding orderTaken
 order-is order h =
-    let a = both (leb 2 order) (leb order 8 && eqb (order % 2) 0) h in
-    let b = both (leb order 8) (eqb (order % 2) 0) (a .1) in
-    record { least = leb-true 2 order (a .0); most = leb-true order 8 (b .0); even = eqb-true (order % 2) 0 (b .1) }
+    let t = both (leb 2 order) (leb order 8) h in
+    record { least = leb-true 2 order (t .0); most = leb-true order 8 (t .1) }
 
--- ---- every quality is taken, so that a Butterworth filter's sections are never refused for it: the ten are evaluated
-by-half : (k i : ℕ) → k ≤ 4 → i < k → qualityTaken (qualityOf (2 * k) i) ≡ true
-unfolding qualityTaken qualityOf cosOf nested over fact floorOf absOf floorZ asFloat ofInt ofBits round add sub mul div neg lt le
-by-half zero i a h = absurd (not-suc-le-zero h)
-by-half (suc zero) zero a h = refl
-by-half (suc zero) (suc i) a h = absurd (omega arith)
-by-half (suc (suc zero)) zero a h = refl
-by-half (suc (suc zero)) (suc zero) a h = refl
-by-half (suc (suc zero)) (suc (suc i)) a h = absurd (omega arith)
-by-half (suc (suc (suc zero))) zero a h = refl
-by-half (suc (suc (suc zero))) (suc zero) a h = refl
-by-half (suc (suc (suc zero))) (suc (suc zero)) a h = refl
-by-half (suc (suc (suc zero))) (suc (suc (suc i))) a h = absurd (omega arith)
-by-half (suc (suc (suc (suc zero)))) zero a h = refl
-by-half (suc (suc (suc (suc zero)))) (suc zero) a h = refl
-by-half (suc (suc (suc (suc zero)))) (suc (suc zero)) a h = refl
-by-half (suc (suc (suc (suc zero)))) (suc (suc (suc zero))) a h = refl
-by-half (suc (suc (suc (suc zero)))) (suc (suc (suc (suc i)))) a h = absurd (omega arith)
-by-half (suc (suc (suc (suc (suc k))))) i a h = absurd (omega arith)
+-- ---- every quality is taken, so that a Butterworth filter's sections are never refused for it: the ten of even orders
+-- and the six of odd ones are evaluated
+-- a test of every number below n
+unfoldable every : ℕ → (ℕ → Bool) → Bool
+every zero f = true
+every (suc n) f = f 0 && every n (λ k. f (suc k))
 
-pub quality-taken : (order i : ℕ) → orderTaken order ≡ true → i < order / 2 → qualityTaken (qualityOf order i) ≡ true
+every-at : (n : ℕ) (f : ℕ → Bool) → every n f ≡ true → (i : ℕ) → i < n → f i ≡ true
+unfolding every
+every-at zero f h i l = absurd (not-suc-le-zero l)
+every-at (suc n) f h zero l = both (f 0) (every n (λ k. f (suc k))) h .0
+every-at (suc n) f h (suc i) l = every-at n (λ k. f (suc k)) (both (f 0) (every n (λ k. f (suc k))) h .1) i (le-of-suc-le-suc l)
+
+sixteen : every 9 (λ order. every (order / 2) (λ i. qualityTaken (qualityOf order i))) ≡ true
+unfolding every qualityTaken qualityOf angleOf cosOf nested over fact floorOf absOf floorZ asFloat ofInt ofBits round add sub mul div neg lt le
+sixteen = refl
+
+pub quality-taken : (order i : ℕ) → orderTaken order ≡ true → 2 * i + 2 ≤ order → qualityTaken (qualityOf order i) ≡ true
 quality-taken order i t h =
     let o = order-is order t in
-    let e : 2 * (order / 2) ≡ order = omega arith in
-    subst (λ (n : ℕ). qualityTaken (qualityOf n i) ≡ true) e (by-half (order / 2) i (omega arith) h)
+    every-at (order / 2) (λ k. qualityTaken (qualityOf order k)) (every-at 9 (λ n. every (n / 2) (λ k. qualityTaken (qualityOf n k))) sixteen order (omega arith)) i (omega arith)
 
--- so each is the section of its quality, and none is refused
-pub never-refused : (r : Response) (order i : ℕ) (cutoff rate : Float) → orderTaken order ≡ true → i < order / 2 → centreTaken cutoff rate ≡ true → let w0 = whole 2 ⊗ pi ⊗ cutoff ⊘ rate in biquadOf r cutoff (qualityOf order i) rate ≡ record { coefs = sectionOf r (cosOf w0) (sinOf w0 ⊘ (whole 2 ⊗ qualityOf order i)); verdict = Done }
+-- so each section of two poles is the section of its quality, and none is refused
+pub never-refused : (r : Response) (order i : ℕ) (cutoff rate : Float) → orderTaken order ≡ true → 2 * i + 2 ≤ order → centreTaken cutoff rate ≡ true → let w0 = w0Of cutoff rate in biquadOf r cutoff (qualityOf order i) rate ≡ record { coefs = sectionOf r (cosOf w0) (sinOf w0 ⊘ (whole 2 ⊗ qualityOf order i)); verdict = Done }
 unfolding biquadOf
 never-refused r order i cutoff rate t h c = rw (c, quality-taken order i t h)
 
@@ -143,11 +148,11 @@ module _ (r : Response) (order : ℕ) (cutoff rate : Float) (len : ℕ) where
     no-order b = rw (a, b)
 
     module _ (b : orderTaken order ≡ true) where
-      pub no-length : eqb len (order / 2 * 5) ≡ false → butterworthOf r order cutoff rate len ≡ Outcome.Refused (Length (order / 2 * 5) len)
+      pub no-length : eqb len (sectionsOf order * 5) ≡ false → butterworthOf r order cutoff rate len ≡ Outcome.Refused (Length (sectionsOf order * 5) len)
       unfolding butterworthOf
       no-length c = rw (a, b, c)
 
-      module _ (c : eqb len (order / 2 * 5) ≡ true) where
+      module _ (c : eqb len (sectionsOf order * 5) ≡ true) where
         pub no-centre : centreTaken cutoff rate ≡ false → butterworthOf r order cutoff rate len ≡ Outcome.Refused (Range badFrequency (whole 0) (rate ⊘ whole 2) cutoff)
         unfolding butterworthOf
         no-centre e = rw (a, b, c, e)
@@ -158,8 +163,8 @@ module _ (r : Response) (order : ℕ) (cutoff rate : Float) (len : ℕ) where
 
 -- ---- a filter that is judged right: its order is taken, and it has as many numbers as the buffer
 pub record Right (r : Response) (order : ℕ) (cutoff rate : Float) (len : ℕ) : Type 0 where
-  pub even : OrderIs order
-  pub count : len ≡ order / 2 * 5
+  pub taken : OrderIs order
+  pub count : len ≡ sectionsOf order * 5
   pub is : butterworthOf r order cutoff rate len ≡ Outcome.Designed len (whole 0) (coefAt r order cutoff rate)
 
 never : (why : Refusal) → Verdict.Done ≡ Verdict.Refused why → ⊥
@@ -168,11 +173,11 @@ never why e = let z : _≡_ {A = ℕ} 0 1 = cc in omega arith
 pub right : (r : Response) (order : ℕ) (cutoff rate : Float) (len : ℕ) → Verdict.Done ≡ answered (butterworthOf r order cutoff rate len) → Right r order cutoff rate len
 unfolding butterworthOf
 right r order cutoff rate len e =
-    let t = go (responseTaken r) (orderTaken order) (eqb len (order / 2 * 5)) (centreTaken cutoff rate) (order-is order) (eqb-true len (order / 2 * 5)) e in
-    record { even = t .0; count = t .1; is = t .2 }
+    let t = go (responseTaken r) (orderTaken order) (eqb len (sectionsOf order * 5)) (centreTaken cutoff rate) (order-is order) (eqb-true len (sectionsOf order * 5)) e in
+    record { taken = t .0; count = t .1; is = t .2 }
   where
     n : ℕ
-    n = order / 2 * 5
+    n = sectionsOf order * 5
 
     is : Outcome
     is = Outcome.Designed len (whole 0) (coefAt r order cutoff rate)

@@ -1,19 +1,20 @@
-// Butterworth filters of even order as sections, five numbers each, one after the other.
+// Butterworth filters as sections, five numbers each, one after the other.
+mod section;
+
 use iir_biquad::biquad::Response;
-use iir_biquad::biquad::biquad_coefs;
 use iir_biquad::biquad::takes_centre;
-use math_numbers::PI;
+use section::section_at;
 use verdict::BAD_CODE;
 use verdict::BAD_COUNT;
 use verdict::BAD_FREQUENCY;
 use verdict::Refusal;
 use verdict::Verdict;
 ghost use mathlib.Core.Path.{_≡_};
-ghost use Prim.Native.Nat.{_+_, _<_, _≤_};
+ghost use Prim.Native.Nat.{_+_, _≤_};
 ghost use lib.ListN.{length};
 ghost use lib.Seq.{sets};
 ghost use Rattle.verdict.specs.Outcome.{answered, Fills};
-ghost use Rattle.iir_butterworth.specs.Butterworth.{responseTaken, orderTaken, qualityOf, butterworthOf};
+ghost use Rattle.iir_butterworth.specs.Butterworth.{responseTaken, orderTaken, sectionsOf, butterworthOf};
 
 // Whether a cascade has this response: low-pass or high-pass.
 fn takes_response(response: Response) -> bool
@@ -27,20 +28,19 @@ fn takes_response(response: Response) -> bool
     }
 }
 
-// Whether an order is even, from 2 to 8.
+// Whether an order is from 2 to 8.
 fn takes_order(order: u64) -> bool
     ensures { λ r. ⌜ r ≡ orderTaken order ⌝ }
 {
-    2 <= order && order <= 8 && order % 2 == 0
+    2 <= order && order <= 8
 }
 
-// The quality of section i, counted from 0: 1 / (2 cos((2 k − 1) π / (2 order))) with k = i + 1.
-fn quality(order: u64, i: u64) -> f64
-    requires { ⌜ order ≤ 8 ⌝ ∗ ⌜ i < 8 ⌝ }
-    ensures { λ r. ⌜ r ≡ qualityOf order i ⌝ }
+// How many sections an order has: one for each two poles, and one for the pole that an odd order has left.
+fn sections(order: u64) -> u64
+    requires { ⌜ order ≤ 8 ⌝ }
+    ensures { λ r. ⌜ r ≡ sectionsOf order ⌝ }
 {
-    let k = (i + 1) as f64;
-    1.0 / (2.0 * math_trig::cos::cos((2.0 * k - 1.0) * PI / (2.0 * (order as f64))))
+    (order + 1) / 2
 }
 
 // Stores the five numbers of a section from `at` on.
@@ -54,8 +54,8 @@ fn put_section(sos: &mut [f64], at: usize, coefs: [f64; 5])
 }
 
 // Whether a filter is taken, for a buffer of `len` elements. Refused, in this order: 7 a response that is neither
-// low-pass nor high-pass; 6 an order that isn't even, from 2 to 8; 8 where the buffer hasn't 5 order/2 elements; 2 with
-// 0, rate/2, cutoff as `biquad_coefs`. 5 can't come: every quality is finite and positive.
+// low-pass nor high-pass; 6 an order below 2 or above 8; 8 where the buffer hasn't five elements a section; 2 with 0,
+// rate/2, cutoff as `biquad_coefs`. 5 can't come: every quality is finite and positive.
 pub fn judge(response: Response, order: u64, cutoff: f64, rate: f64, len: u64) -> Verdict
     ensures { λ r. ⌜ r ≡ answered (butterworthOf response order cutoff rate len) ⌝ }
 {
@@ -65,7 +65,7 @@ pub fn judge(response: Response, order: u64, cutoff: f64, rate: f64, len: u64) -
     if !takes_order(order) {
         return Verdict::Refused(Refusal::Plain(BAD_COUNT));
     }
-    let expected = order / 2 * 5;
+    let expected = sections(order) * 5;
     if len != expected {
         return Verdict::Refused(Refusal::Length(expected, len));
     }
@@ -75,8 +75,8 @@ pub fn judge(response: Response, order: u64, cutoff: f64, rate: f64, len: u64) -
     Verdict::Done
 }
 
-// Fills the buffer with order/2 sections, five numbers each, the lowest quality first. Refused as `judge`, with the
-// buffer as it came.
+// Fills the buffer with the sections, five numbers each, the lowest quality first and that of first order last. Refused
+// as `judge`, with the buffer as it came.
 pub fn butterworth_sos(
     response: Response,
     order: u64,
@@ -89,10 +89,9 @@ pub fn butterworth_sos(
     let judged = judge(response, order, cutoff, rate, sos.len() as u64);
     match judged {
         Verdict::Done => {
-            let sections = (order / 2) as usize;
-            for i in 0..sections {
-                let b = biquad_coefs(response, cutoff, quality(order, i as u64), rate);
-                let coefs = b.coefs;
+            let count = sections(order) as usize;
+            for i in 0..count {
+                let coefs = section_at(response, order, i as u64, cutoff, rate);
                 put_section(&mut *sos, 5 * i, coefs);
             }
             Verdict::Done

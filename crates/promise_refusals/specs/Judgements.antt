@@ -55,7 +55,7 @@ use Rattle.iir_biquad.specs.Preemphasis.{constantTaken, rateTaken, preemphasisO
 use Rattle.iir_biquad.specs.declared.biquad.Biquad.{Biquad}
 use Rattle.iir_biquad.specs.declared.biquad.Response.{Response}
 use Rattle.iir_biquad.specs.declared.preemphasis.Preemphasis.{Preemphasis}
-use Rattle.iir_butterworth.specs.Butterworth.{responseTaken, orderTaken, butterworthOf}
+use Rattle.iir_butterworth.specs.Butterworth.{responseTaken, orderTaken, sectionsOf, butterworthOf}
 use Rattle.c_formats.specs.declared.element.Format.{Format}
 use Rattle.c_formats.specs.declared.element.Format.the-variants as Format
 use Rattle.c_formats.specs.Formats.{takesOf, outsideOf}
@@ -265,7 +265,7 @@ pub butterworth-listed : (r : Response) (order : ℕ) (cutoff rate : Float) (len
 unfolding butterworthOf reportOf listed
 butterworth-listed r order cutoff rate len =
     let way = either-way (λ (o : Outcome). Listed (answered o)) in
-    way (responseTaken r) _ _ (way (orderTaken order) _ _ (way (eqb len (order / 2 * 5)) _ _ (way (centreTaken cutoff rate) _ _ tt tt) tt) tt) tt
+    way (responseTaken r) _ _ (way (orderTaken order) _ _ (way (eqb len (sectionsOf order * 5)) _ _ (way (centreTaken cutoff rate) _ _ tt tt) tt) tt) tt
 
 -- ---- numbers in other formats
 pub q15-listed : (i : ℕ) (x : Float) → Listed (ofCoded (Q15.q15TapOf i x))

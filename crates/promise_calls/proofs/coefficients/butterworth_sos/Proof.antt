@@ -1,5 +1,7 @@
--- `promise_calls::coefficients::butterworth_sos` meets its contract: what its export ensures, by demand 1. Assumes nothing.
+-- `promise_calls::coefficients::butterworth_sos` meets its contract: what its export ensures, by demand 1 and since even
+-- orders are kept. Assumes nothing.
 use Rattle.c_sections.specs.Codes.{responseOf}
+use Rattle.c_sections.specs.EvenOrders.{keeps-even}
 use Rattle.promise_refusals.specs.Exports.{butterworth-bytes}
 use Rattle.promise_refusals.specs.Kept.{filled-or-kept}
 use lib.ListN.{length}
@@ -17,7 +19,8 @@ returns : tie.Need-returns
 returns c =
     let a = c .before .before .before .before .before .args in
     let w = c .before .before .pel-butterworth-sos .ensures in
-    filled-or-kept (butterworth-bytes (responseOf (a .response)) (a .order) (a .cutoff) (a .rate) (length (a .out .now))) w (same-length c)
+    let r = responseOf (a .response) in
+    (filled-or-kept (butterworth-bytes r (a .order) (a .cutoff) (a .rate) (length (a .out .now))) w (same-length c), keeps-even r (a .order) (a .cutoff) (a .rate) w)
 
 pub butterworth-sos-spec : {M : Type 1} → statement M
 butterworth-sos-spec = tie.close (tie.spec pel-butterworth-sos-requires same-length returns)
