@@ -27,9 +27,9 @@
 
 /* The version of this header and of the library that comes with it. */
 #define PEL_VERSION_MAJOR 0
-#define PEL_VERSION_MINOR 3
+#define PEL_VERSION_MINOR 4
 #define PEL_VERSION_PATCH 0
-#define PEL_VERSION "0.3.0"
+#define PEL_VERSION "0.4.0"
 
 #ifdef __cplusplus
 extern "C" {
@@ -258,16 +258,19 @@ enum { PEL_LOWPASS = 0, PEL_HIGHPASS = 1, PEL_BANDPASS = 2, PEL_NOTCH = 3 };
  * Example: a high-pass at a quarter of the rate with q = 0.5 has b0, b1, b2 = 0.25, -0.5, 0.25. */
 pel_report pel_biquad_coefs(uint64_t response, double centre, double q, double rate, uint8_t *out, size_t bytes);
 
-/* A Butterworth low-pass or high-pass of an even order as order/2 such sections, one after the other, that
- * of the lowest quality first.
- * Accepted: count is the number of coefficients, 5 order/2. Refused, in this order, with `out` as it came:
+/* A Butterworth low-pass or high-pass as such sections, one after the other: one for each two poles, that of
+ * the lowest quality first, and last, where the order is odd, one of first order, whose b2 and a2 are 0. So
+ * there are (order + 1)/2 of them, as whole numbers divide: 1, 2, 2, 3, 3, 4 and 4 for the orders 2 to 8.
+ * Accepted: count is the number of coefficients, 5 a section. Refused, in this order, with `out` as it came:
  *   7   an unknown response
  *   8   bytes isn't a multiple of 8, both figures in bytes
  *   7   a band-pass or a notch
- *   6   an order that isn't 2, 4, 6 or 8
- *   8   the buffer isn't 5 order/2 numbers: expected and given in numbers
+ *   6   an order below 2 or above 8
+ *   8   the buffer isn't 5 numbers a section: expected and given in numbers
  *   2   (0, rate/2, cutoff) as pel_biquad_coefs
- * Example: order 4 needs 80 bytes. */
+ * Extreme numbers can give NaN coefficients, as of a biquad.
+ * Example: order 3 needs 80 bytes, and so does order 4; a low-pass of order 3 with the cutoff 0.25 at the
+ * rate 1 ends with 0.5, 0.5, 0, 0, 0. */
 pel_report pel_butterworth_sos(uint64_t response, uint64_t order, double cutoff, double rate, uint8_t *out,
                                size_t bytes);
 

@@ -328,14 +328,25 @@ def biquad(response, centre, q, rate):
     return section(response, w0, sin(w0) / (2 * real(q)))
 
 
-def butterworth(response, order, cutoff, rate):
-    """Sections with the poles of the order, alpha = sin w0 cos((2k - 1) pi/(2 order)), the lowest quality first."""
+def butterworth(response, order, cutoff, rate, sections):
+    """The analogue filter's poles, which lie on a circle at pi/order from each other and mirrored at the real axis, by
+    the bilinear transform: each pair, at an angle of a to that axis, with alpha = sin w0 cos a, the lowest quality
+    first, and then the pole on the axis, where the order is odd: 1/(1 + s), or s/(1 + s) for a high-pass, with
+    s = (1 - z)/(1 + z)/t, z one sample's delay and t = tan(w0/2)."""
     if response not in (0, 1):
         raise Refused(7)
-    if order not in (2, 4, 6, 8):
+    if not 2 <= order <= 8:
         raise Refused(6)
+    if sections != (order + 1) // 2:
+        raise Refused(8, 5 * ((order + 1) // 2), 5 * sections)
     w0 = 2 * PI * real(F(cutoff) / F(rate))
-    return [section(response, w0, sin(w0) * cos((2 * k - 1) * PI / (2 * order))) for k in range(1, order // 2 + 1)]
+    angles = [PI * k / (2 * order) for k in range(1 if order % 2 == 0 else 2, order, 2)]
+    made = [section(response, w0, sin(w0) * cos(a)) for a in angles]
+    if order % 2 == 1:
+        t = tan(w0 / 2)
+        b = (t if response == 0 else 1) / (1 + t)
+        made.append([b, b if response == 0 else -b, D(0), (t - 1) / (t + 1), D(0)])
+    return made
 
 
 def preemphasis(tau, rate):
@@ -490,14 +501,18 @@ def print_biquad():
 
 
 def print_butterworth():
-    for c in butterworth(0, 4, 8000, 48000):
-        yield " ".join(show(x, 4, 7) for x in c)
-    for hertz in range(0, 16001, 4000):
-        above = (tan(PI * hertz / 48000) / tan(PI * 8000 / 48000)) ** 8
-        yield f"{short(hertz):>5} Hz: {show(1 / (1 + above).sqrt(), 4)}"
-    if refusal_of(butterworth, 0, 3, 8000, 48000).number == 6:
-        yield "refused with 6: the order must be 2, 4, 6 or 8"
-    if refusal_of(butterworth, 3, 4, 8000, 48000).number == 7:
+    for response, order, name in (0, 4, "low"), (1, 3, "high"):
+        yield f"a {name}-pass of order {order}"
+        for c in butterworth(response, order, 8000, 48000, 2):
+            yield " ".join(show(x, 4, 7) for x in c)
+        for hertz in range(0, 16001, 4000):
+            above = (tan(PI * hertz / 48000) / tan(PI * 8000 / 48000)) ** (2 * order)
+            yield f"{short(hertz):>5} Hz: {show((1 / (1 + above) if response == 0 else above / (1 + above)).sqrt(), 4)}"
+    if refusal_of(butterworth, 0, 9, 8000, 48000, 2).number == 6:
+        yield "refused with 6: the order must be 2 to 8"
+    refused = refusal_of(butterworth, 0, 5, 8000, 48000, 2)
+    yield f"refused with {refused.number}: order 5 has {refused.carried[0]} numbers, not {refused.carried[1]}"
+    if refusal_of(butterworth, 3, 4, 8000, 48000, 2).number == 7:
         yield "refused with 7: a Butterworth filter is a low-pass or a high-pass"
 
 

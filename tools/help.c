@@ -62,9 +62,9 @@ static const struct help helps[] = {
      "  --centre HZ        the centre or the corner; above 0 and below half the rate\n"
      "  --q Q              the quality; finite and above 0\n" RATE_HELP SECTION_HELP,
      "biquad --response notch --centre 1000 --q 5 --rate 48000"},
-    {"butterworth", "a Butterworth filter as second-order sections",
+    {"butterworth", "a Butterworth filter as sections, b0 b1 b2 a1 a2 each with a0 = 1",
      "  --response R       lowpass or highpass\n"
-     "  --order N          2, 4, 6 or 8\n"
+     "  --order N          2 to 8; an odd one ends with a section of first order, its b2 and a2 being 0\n"
      "  --cutoff HZ        where the response is down by 3.01 dB; above 0 and below half the rate\n" RATE_HELP
          SECTION_HELP,
      "butterworth --response lowpass --order 4 --cutoff 6000 --rate 48000"},

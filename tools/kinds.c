@@ -240,7 +240,7 @@ static const char *mean_butterworth(const struct ticket *t, const pel_report *r)
     case PEL_BAD_FREQUENCY:
         return "the cutoff must lie above 0 and below half of a finite rate";
     case PEL_BAD_COUNT:
-        return "the order must be 2, 4, 6 or 8";
+        return "the order must be 2 to 8";
     case PEL_BAD_CODE:
         return "a Butterworth filter is a low-pass or a high-pass";
     case PEL_BAD_ELEMENT:

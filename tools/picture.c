@@ -178,7 +178,7 @@ void show_biquad(const struct ticket *t, size_t n, struct picture *p)
 void show_butterworth(const struct ticket *t, size_t n, struct picture *p)
 {
     (void)n;
-    snprintf(p->title, sizeof p->title, "Butterworth %s", responses[t->response]);
+    snprintf(p->title, sizeof p->title, "Butterworth %s of order %" PRIu64, responses[t->response], t->order);
     double hertz = in_hertz(p, t->rate);
     mark_at(p, "cutoff", t->cutoff / hertz);
     mark_level(p, 0.0, half_power);

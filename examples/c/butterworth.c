@@ -1,11 +1,12 @@
-/* A Butterworth low-pass as sections one after the other, that of the lowest quality first. */
+/* Butterworth filters as sections one after the other, that of the lowest quality first: a low-pass of order 4, and the
+ * high-pass of order 3 that takes a constant away. */
 #include <math.h>
 #include <peldozkar.h>
 #include <stdio.h>
 
 #include "taps.h"
 
-enum { ORDER = 4, SECTIONS = ORDER / 2 };
+enum { SECTIONS = 2 }; /* of order 4, and of order 3 too: (order + 1)/2 */
 
 /* How much of a sine of w radians a sample passes one section. */
 static double passed(const uint8_t *section, double w)
@@ -18,14 +19,9 @@ static double passed(const uint8_t *section, double w)
     return above / below;
 }
 
-int main(void)
+/* The coefficients, a section a line, and how much of some frequencies passes all sections. */
+static void tell(const uint8_t *bytes, double rate)
 {
-    const double cutoff = 8000.0, rate = 48000.0;
-    uint8_t bytes[8 * 5 * SECTIONS];
-
-    pel_report r = pel_butterworth_sos(PEL_LOWPASS, ORDER, cutoff, rate, bytes, sizeof bytes);
-    if (r.number != PEL_ACCEPTED)
-        return (int)r.number;
     for (size_t i = 0; i < 5 * SECTIONS; i++)
         printf("%7.4f%s", f64_at(bytes, i), i % 5 == 4 ? "\n" : " ");
     for (double f = 0.0; f <= 16000.0; f += 4000.0) {
@@ -34,11 +30,33 @@ int main(void)
             all *= passed(bytes + 40 * k, 2.0 * 3.141592653589793 * f / rate);
         printf("%5g Hz: %.4f\n", f, all);
     }
+}
 
-    r = pel_butterworth_sos(PEL_LOWPASS, 3, cutoff, rate, bytes, sizeof bytes);
+int main(void)
+{
+    const double cutoff = 8000.0, rate = 48000.0;
+    uint8_t bytes[8 * 5 * SECTIONS];
+
+    puts("a low-pass of order 4");
+    pel_report r = pel_butterworth_sos(PEL_LOWPASS, 4, cutoff, rate, bytes, sizeof bytes);
+    if (r.number != PEL_ACCEPTED)
+        return (int)r.number;
+    tell(bytes, rate);
+
+    /* The last section of an odd order is of first order: b2 and a2 are 0. */
+    puts("a high-pass of order 3");
+    r = pel_butterworth_sos(PEL_HIGHPASS, 3, cutoff, rate, bytes, sizeof bytes);
+    if (r.number != PEL_ACCEPTED)
+        return (int)r.number;
+    tell(bytes, rate);
+
+    r = pel_butterworth_sos(PEL_LOWPASS, 9, cutoff, rate, bytes, sizeof bytes);
     if (r.number == PEL_BAD_COUNT)
-        puts("refused with 6: the order must be 2, 4, 6 or 8");
-    r = pel_butterworth_sos(PEL_NOTCH, ORDER, cutoff, rate, bytes, sizeof bytes);
+        puts("refused with 6: the order must be 2 to 8");
+    r = pel_butterworth_sos(PEL_LOWPASS, 5, cutoff, rate, bytes, sizeof bytes);
+    if (r.number == PEL_BAD_LENGTH)
+        printf("refused with 8: order 5 has %u numbers, not %u\n", (unsigned)r.expected, (unsigned)r.given);
+    r = pel_butterworth_sos(PEL_NOTCH, 4, cutoff, rate, bytes, sizeof bytes);
     if (r.number == PEL_BAD_CODE)
         puts("refused with 7: a Butterworth filter is a low-pass or a high-pass");
     return 0;

@@ -31,7 +31,19 @@ static void straight_biquad(uint64_t response, double centre, double q, double r
 /* The quality of the pole pair i of a Butterworth filter, the least first. */
 static double straight_quality(uint64_t order, uint64_t i)
 {
-    return 1.0 / (2.0 * cos((2.0 * (double)i + 1.0) * pi / (2.0 * (double)order)));
+    double n = (double)order, k = (double)i + 1.0;
+    return 1.0 / (2.0 * cos(order % 2 == 0 ? (2.0 * k - 1.0) * pi / (2.0 * n) : k * pi / n));
+}
+
+/* The section of first order that an odd order ends with. */
+static void straight_first_order(uint64_t response, double cutoff, double rate, double *want)
+{
+    double w0 = 2.0 * pi * cutoff / rate, s = sin(w0), d = 1.0 + cos(w0);
+    want[0] = (response == PEL_LOWPASS ? s : d) / (s + d);
+    want[1] = response == PEL_LOWPASS ? want[0] : -want[0];
+    want[2] = 0.0;
+    want[3] = (s - d) / (s + d);
+    want[4] = 0.0;
 }
 
 /* The gain of the section at tap 5 i of the buffer, at w radians a sample. */
@@ -312,13 +324,17 @@ static void butterworth_accepted(uint64_t response, uint64_t order, double cutof
 {
     double want[5];
     char what[120];
-    size_t bytes = 20 * order;
+    uint64_t sections = (order + 1) / 2;
+    size_t bytes = 40 * sections;
     snprintf(what, sizeof what, "Butterworth %s of order %d (%g, %g)", names[response], (int)order, cutoff, rate);
     pel_report r = pel_butterworth_sos(response, order, cutoff, rate, lend(bytes), bytes);
-    report(what, r, counted(5 * order / 2));
+    report(what, r, counted(5 * sections));
     around(what);
-    for (uint64_t i = 0; i < order / 2; i++) {
-        straight_biquad(response, cutoff, straight_quality(order, i), rate, want);
+    for (uint64_t i = 0; i < sections; i++) {
+        if (2 * i + 1 == order)
+            straight_first_order(response, cutoff, rate, want);
+        else
+            straight_biquad(response, cutoff, straight_quality(order, i), rate, want);
         for (uint64_t k = 0; k < 5; k++)
             coefficient(what, tap(5 * i + k), want[k]);
     }
@@ -327,7 +343,7 @@ static void butterworth_accepted(uint64_t response, uint64_t order, double cutof
 static double cascade_gain(uint64_t order, double w)
 {
     double product = 1.0;
-    for (uint64_t i = 0; i < order / 2; i++)
+    for (uint64_t i = 0; i < (order + 1) / 2; i++)
         product *= gain(i, w);
     return product;
 }
@@ -358,31 +374,72 @@ static void butterworth_gains(uint64_t order, double cutoff, double rate)
 static void butterworths(void)
 {
     static const double cutoffs[] = {480, 1000, 8000, 12000, 20000, 23500};
-    for (uint64_t order = 2; order <= 8; order += 2)
+    for (uint64_t order = 2; order <= 8; order++)
         for (size_t i = 0; i < COUNT(cutoffs); i++)
             butterworth_gains(order, cutoffs[i], 48000);
 
     /* The tables' qualities, to their eight digits: a2 is (1 - alpha)/(1 + alpha), and alpha 1/(2 q) here. */
     static const double tables[][4] = {{0.70710678},
+                                       {1.0},
                                        {0.54119610, 1.3065630},
+                                       {0.61803399, 1.6180340},
                                        {0.51763809, 0.70710678, 1.9318517},
+                                       {0.55495813, 0.80193774, 2.2469796},
                                        {0.50979558, 0.60134489, 0.89997622, 2.5629154}};
-    for (uint64_t order = 2; order <= 8; order += 2) {
+    for (uint64_t order = 2; order <= 8; order++) {
         butterworth_accepted(PEL_LOWPASS, order, 0.25, 1);
         for (uint64_t i = 0; i < order / 2; i++) {
-            double alpha = 1.0 / (2.0 * tables[order / 2 - 1][i]);
+            double alpha = 1.0 / (2.0 * tables[order - 2][i]);
             near("a quality of the tables", tap(5 * i + 4), (1.0 - alpha) / (1.0 + alpha), 1e-7);
         }
     }
     butterworth_accepted(PEL_LOWPASS, 8, tiny, 1);
     butterworth_accepted(PEL_HIGHPASS, 8, nextafter(0.5, 0), 1);
     butterworth_accepted(PEL_HIGHPASS, 2, 1e300, 1e301);
+    butterworth_accepted(PEL_LOWPASS, 7, tiny, 1);
+    butterworth_accepted(PEL_HIGHPASS, 5, 1e300, 1e301);
 
     /* 2 PI cutoff overflows. */
     REPORT(pel_butterworth_sos(PEL_LOWPASS, 4, 8e307, huge, lend(80), 80), counted(10));
     for (uint64_t k = 0; k < 10; k++)
         expect("an infinite angle", tap(k), quiet);
     around("an infinite angle");
+}
+
+/* The last section of an accepted filter of odd order has these numbers, zeros with their signs. */
+static void ends_with(const char *what, uint64_t response, uint64_t order, double cutoff, double rate,
+                      const double *want)
+{
+    size_t bytes = 20 * (order + 1);
+    report(what, pel_butterworth_sos(response, order, cutoff, rate, lend(bytes), bytes), counted(bytes / 8));
+    around(what);
+    for (uint64_t k = 0; k < 5; k++)
+        expect(what, tap(bytes / 8 - 5 + k), want[k]);
+}
+
+static void first_orders(void)
+{
+    double below = nextafter(0.5, 0);
+    for (uint64_t order = 3; order <= 7; order += 2) {
+        /* By hand: at a quarter of the rate s and d are 1. */
+        ends_with("a low-pass at a quarter", PEL_LOWPASS, order, 0.25, 1, (double[]){0.5, 0.5, 0.0, 0.0, 0.0});
+        ends_with("a high-pass at a quarter", PEL_HIGHPASS, order, 0.25, 1, (double[]){0.5, -0.5, 0.0, 0.0, 0.0});
+        /* Next to half the rate d is 0: the pole is on the circle, under the zero of a low-pass. */
+        ends_with("a low-pass next to half", PEL_LOWPASS, order, below, 1, (double[]){1.0, 1.0, 0.0, 1.0, 0.0});
+        ends_with("a high-pass next to half", PEL_HIGHPASS, order, below, 1, (double[]){0.0, -0.0, 0.0, 1.0, 0.0});
+        /* Next to 0 s is lost in the sum and the difference, and the pole is on the circle at 1. */
+        ends_with("a low-pass next to 0", PEL_LOWPASS, order, tiny, 1e300, (double[]){0.0, 0.0, 0.0, -1.0, 0.0});
+        ends_with("a high-pass next to 0", PEL_HIGHPASS, order, tiny, 1e300, (double[]){1.0, -1.0, 0.0, -1.0, 0.0});
+        /* 2 PI cutoff overflows, and b2 and a2 are 0 all the same. */
+        for (uint64_t response = PEL_LOWPASS; response <= PEL_HIGHPASS; response++)
+            ends_with("an infinite angle", response, order, 8e307, huge, (double[]){quiet, quiet, 0.0, quiet, 0.0});
+    }
+    /* By hand: order 3 at a quarter begins with the quality 1, so alpha is 1/2 and 1 + alpha 3/2. What the formula
+     * gives is 0.9999999999999998, so to a rounding. */
+    pel_butterworth_sos(PEL_LOWPASS, 3, 0.25, 1, lend(80), 80);
+    near("b0 of order 3", tap(0), 1.0 / 3.0, 1e-15);
+    near("a2 of order 3", tap(4), 1.0 / 3.0, 1e-15);
+    near("half the power at its cutoff", power_at_quarter(0) * power_at_quarter(1), 0.5, 1e-14);
 }
 
 static void butterworth_examples(void)
@@ -398,6 +455,7 @@ static void butterworth_examples(void)
     /* The Rust's buffer of one section for order 4. By the order of the limits: 7 before 6, 8 before 2. */
     REFUSED(pel_butterworth_sos(PEL_LOWPASS, 4, 24000, 48000, lend(40), 40), length(10, 5));
     REFUSED(pel_butterworth_sos(PEL_BANDPASS, 4, 1000, 48000, lend(40), 40), plain(7));
+    REFUSED(pel_butterworth_sos(PEL_BANDPASS, 9, 1000, 48000, lend(40), 40), plain(7));
     REFUSED(pel_butterworth_sos(PEL_BANDPASS, 3, 1000, 48000, lend(40), 40), plain(7));
 
     /* Next to where 2 pi cutoff overflows, as of a biquad. */
@@ -419,11 +477,11 @@ static void butterworth_refusals(void)
     REFUSED(pel_butterworth_sos(PEL_LOWPASS, 4, 1000, 48000, lend(79), 79), length(72, 79));
     REFUSED(pel_butterworth_sos(PEL_LOWPASS, 4, 1000, 48000, lend(7), 7), length(0, 7));
 
-    REFUSED(pel_butterworth_sos(PEL_BANDPASS, 3, quiet, quiet, lend(8), 8), plain(7));
+    REFUSED(pel_butterworth_sos(PEL_BANDPASS, 9, quiet, quiet, lend(8), 8), plain(7));
     REFUSED(pel_butterworth_sos(PEL_NOTCH, 4, 1000, 48000, lend(80), 80), plain(7));
     REFUSED(pel_butterworth_sos(PEL_BANDPASS, 4, 1000, 48000, lend(0), 0), plain(7));
 
-    static const uint64_t orders[] = {0, 1, 3, 5, 7, 9, 10, 12, 1ull << 32, (1ull << 63) + 4, UINT64_MAX};
+    static const uint64_t orders[] = {0, 1, 9, 10, 11, 12, 1ull << 32, (1ull << 32) + 3, (1ull << 63) + 4, UINT64_MAX};
     for (size_t i = 0; i < COUNT(orders); i++) {
         REFUSED(pel_butterworth_sos(PEL_LOWPASS, orders[i], 1000, 48000, lend(80), 80), plain(6));
         REFUSED(pel_butterworth_sos(PEL_HIGHPASS, orders[i], quiet, quiet, lend(0), 0), plain(6));
@@ -435,6 +493,10 @@ static void butterworth_refusals(void)
     REFUSED(pel_butterworth_sos(PEL_LOWPASS, 4, 1000, 48000, lend(88), 88), length(10, 11));
     REFUSED(pel_butterworth_sos(PEL_LOWPASS, 2, 0, 48000, lend(80), 80), length(5, 10));
     REFUSED(pel_butterworth_sos(PEL_LOWPASS, 8, 1000, 48000, lend(80), 80), length(20, 10));
+    REFUSED(pel_butterworth_sos(PEL_LOWPASS, 3, 1000, 48000, lend(40), 40), length(10, 5));
+    REFUSED(pel_butterworth_sos(PEL_HIGHPASS, 5, quiet, quiet, lend(80), 80), length(15, 10));
+    REFUSED(pel_butterworth_sos(PEL_LOWPASS, 7, 1000, 48000, lend(140), 140), length(136, 140));
+    REFUSED(pel_butterworth_sos(PEL_LOWPASS, 7, 1000, 48000, lend(120), 120), length(20, 15));
 
     REFUSED(pel_butterworth_sos(PEL_LOWPASS, 2, 0, 48000, lend(40), 40), range(2, 0, 24000, 0));
     REFUSED(pel_butterworth_sos(PEL_LOWPASS, 4, 24000, 48000, lend(80), 80), range(2, 0, 24000, 24000));
@@ -442,6 +504,8 @@ static void butterworth_refusals(void)
     REFUSED(pel_butterworth_sos(PEL_HIGHPASS, 6, quiet, quiet, lend(120), 120), range(2, 0, quiet, quiet));
     REFUSED(pel_butterworth_sos(PEL_HIGHPASS, 8, 1000, inf, lend(160), 160), range(2, 0, inf, 1000));
     REFUSED(pel_butterworth_sos(PEL_HIGHPASS, 8, 1000, -48000, lend(160), 160), range(2, 0, -24000, 1000));
+    REFUSED(pel_butterworth_sos(PEL_LOWPASS, 3, 24000, 48000, lend(80), 80), range(2, 0, 24000, 24000));
+    REFUSED(pel_butterworth_sos(PEL_HIGHPASS, 7, quiet, 48000, lend(160), 160), range(2, 0, 24000, quiet));
 }
 
 /* 7, 8 in bytes, 7, 6, 8 in numbers, 2; and where none of them, the formula's numbers. */
@@ -454,10 +518,10 @@ static void butterworth_told(uint64_t response, uint64_t order, double cutoff, d
         report("then 8 in bytes", r, length(bytes - bytes % 8, bytes));
     else if (response > 1)
         report("then 7 of the response", r, plain(7));
-    else if (order < 2 || order > 8 || order % 2 != 0)
+    else if (order < 2 || order > 8)
         report("then 6", r, plain(6));
-    else if (bytes != 20 * order)
-        report("then 8 in numbers", r, length(5 * order / 2, bytes / 8));
+    else if (bytes != 40 * ((order + 1) / 2))
+        report("then 8 in numbers", r, length(5 * ((order + 1) / 2), bytes / 8));
     else if (!takes_centre(cutoff, rate))
         report("then 2", r, range(2, 0, rate / 2.0, cutoff));
     else
@@ -591,7 +655,7 @@ static void preemphasis_told(double tau, double rate, size_t bytes)
 static void orders(void)
 {
     static const uint64_t responses[] = {0, 1, 2, 3, 4, UINT64_MAX};
-    static const uint64_t cascade_orders[] = {2, 4, 8, 0, 3, 10, UINT64_MAX};
+    static const uint64_t cascade_orders[] = {2, 3, 4, 7, 8, 0, 1, 9, UINT64_MAX};
     static const double numbers[] = {1000, 24000, 48000, 0.5, 0.001, 5e-324, 0, -1, INFINITY, -INFINITY, NAN};
     static const size_t lengths[] = {24, 40, 80, 160, 0, 8, 13};
     for (size_t a = 0; a < COUNT(numbers); a++)
@@ -621,7 +685,7 @@ static void hostile(void)
         biquad_told(n % 5, x[0], x[1], x[2], n % 7 == 0 ? n % 50 : 40);
         biquad_told(n % 4, fabs(x[0]), fabs(x[1]), huge, 40);
         butterworth_told(n % 3, n % 10, x[0], x[2], n % 9 * 20);
-        butterworth_told(n % 2, n % 4 * 2 + 2, fabs(x[0]), huge, (n % 4 + 1) * 40);
+        butterworth_told(n % 2, n % 7 + 2, fabs(x[0]), huge, (n % 7 + 3) / 2 * 40);
         preemphasis_told(x[0], x[1], n % 7 == 0 ? n % 50 : 24);
         preemphasis_told(fmod(fabs(x[0]), 0.001), 40000 + fabs(x[1]), 24);
     }
@@ -635,6 +699,7 @@ static void tests(void)
     overflowing_biquads();
     biquad_refusals();
     butterworths();
+    first_orders();
     butterworth_examples();
     butterworth_refusals();
     preemphases();

@@ -33,13 +33,13 @@ fn write_cascade(response: Response, order: u64, cutoff: f64, rate: f64, out: &m
     }
 }
 
-// Fills the buffer with the sections of a Butterworth filter, order/2 of them with five numbers each as
-// pel_biquad_coefs has them, eight bytes each, the lowest first; how many numbers as the count. Responses: 0 low-pass,
-// 1 high-pass.
+// Fills the buffer with the sections of a Butterworth filter, five numbers each as pel_biquad_coefs has them, eight
+// bytes each, the lowest first: one for each two poles, and last, where the order is odd, one of first order. How many
+// numbers as the count. Responses: 0 low-pass, 1 high-pass.
 // Refused, in this order: 7 a response above 3; 8 a length that isn't a multiple of 8, with the length to the last
-// whole number and the length, in bytes; 7 a band-pass or a notch; 6 an order that isn't 2, 4, 6 or 8; 8 a buffer for
-// another number of numbers than 5 order/2, with both; 2 with 0, rate/2, cutoff where the cutoff isn't between 0 and
-// half of a finite rate. A refusal leaves the buffer as it came. Example: order 4 needs 80 bytes.
+// whole number and the length, in bytes; 7 a band-pass or a notch; 6 an order below 2 or above 8; 8 a buffer for
+// another number of numbers than five a section, with both; 2 with 0, rate/2, cutoff where the cutoff isn't between 0
+// and half of a finite rate. A refusal leaves the buffer as it came. Example: orders 3 and 4 need 80 bytes.
 #[no_mangle]
 pub extern "C" fn pel_butterworth_sos(
     response: u64,

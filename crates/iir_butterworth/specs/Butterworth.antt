@@ -1,7 +1,7 @@
 -- Butterworth filters as sections, five numbers each, one after the other. Definitions only.
---   an even order has order/2 sections of the cookbook; section k = 1 .. has the quality 1 / (2 cos((2 k − 1) π / (2 order)))
---   an odd one has (order − 1)/2 of them with the quality 1 / (2 cos(k π / order)), and last a section of first order:
---   s = sin w0,  d = 1 + cos w0;  low-pass b = (s, s)/(s + d);  high-pass b = (d, −d)/(s + d);  a1 = (s − d)/(s + d)
+--   even order: sections k = 1 .. order/2 of the cookbook with the qualities 1 / (2 cos((2 k − 1) π / (2 order)))
+--   odd order: sections k = 1 .. (order − 1)/2 with 1 / (2 cos(k π / order)), and last one of first order, with
+--   s = sin w0,  d = 1 + cos w0:  low-pass b = (s, s)/(s + d);  high-pass b = (d, −d)/(s + d);  a1 = (s − d)/(s + d)
 use Prim.Native.Nat.{ℕ, _+_, _*_, _/_, _%_}
 use mathlib.Core.Bool.{Bool, true, false, cond, _&&_}
 use mathlib.Core.List.{List, [], _∷_}

@@ -56,16 +56,19 @@ pub fn biquad_coefs(response: Response, centre: f64, q: f64, rate: f64) -> Resul
     Ok(section)
 }
 
-/// Fills `out` with a Butterworth low-pass or high-pass of an even order as order/2 sections like those of
-/// [`biquad_coefs`], that of the lowest quality first.
+/// Fills `out` with a Butterworth low-pass or high-pass of order 2 to 8 as sections like those of [`biquad_coefs`]: one
+/// for each two poles, that of the lowest quality first, and last, where the order is odd, one of first order, whose b2
+/// and a2 are 0. So there are `order.div_ceil(2)` of them.
 ///
 /// # Errors
 ///
 /// Refused, in this order, with `out` as it came:
 /// - 7 a band-pass or a notch
-/// - 6 an order that isn't 2, 4, 6 or 8
-/// - 8 `out` isn't order/2 sections: expected and given in numbers, five a section
+/// - 6 an order below 2 or above 8
+/// - 8 `out` isn't that many sections: expected and given in numbers, five a section
 /// - 2 (0, rate/2, cutoff) as [`biquad_coefs`]
+///
+/// Extreme numbers can give NaN coefficients, as of a biquad: they are accepted.
 ///
 /// # Examples
 ///
@@ -79,6 +82,11 @@ pub fn biquad_coefs(response: Response, centre: f64, q: f64, rate: f64) -> Resul
 ///     // Each section's gain is 1 where the frequency is 0.
 ///     assert!(((b0 + b1 + b2) / (1.0 + a1 + a2) - 1.0).abs() < 1e-14);
 /// }
+///
+/// // An odd order ends with a section of first order; that of a high-pass takes what doesn't change away.
+/// butterworth_sos(Response::Highpass, 3, 1000.0, 8000.0, &mut sections)?;
+/// let [b0, b1, b2, _, a2] = sections[1];
+/// assert_eq!([b0 + b1, b2, a2], [0.0, 0.0, 0.0]);
 /// # Ok(())
 /// # }
 /// ```

@@ -202,13 +202,26 @@ fn sections() {
         assert_eq!(biquad_coefs(response, 900.0, 0.8, 8000.0), Ok(want));
     }
     for (response, code) in &responses[..2] {
-        let (_, want) = written::<15>(|out| raw::pel_butterworth_sos(*code, 6, 900.0, 8000.0, out));
-        let mut out = [[0.0; 5]; 3];
-        assert_eq!(
-            butterworth_sos(*response, 6, 900.0, 8000.0, &mut out),
-            Ok(())
-        );
-        assert_eq!(out.as_flattened(), want);
+        for order in [5, 6] {
+            let (_, want) =
+                written::<15>(|out| raw::pel_butterworth_sos(*code, order, 900.0, 8000.0, out));
+            let mut out = [[0.0; 5]; 3];
+            assert_eq!(
+                butterworth_sos(*response, order, 900.0, 8000.0, &mut out),
+                Ok(())
+            );
+            assert_eq!(out.as_flattened(), want);
+        }
+    }
+    // The last section of an odd order, of first order: at a quarter of the rate its pole is 0, and it has half of a
+    // sample and half of the one before, which a high-pass takes away.
+    for (response, b1) in [(Response::Lowpass, 0.5), (Response::Highpass, -0.5)] {
+        for order in [3, 5, 7] {
+            let mut out = [[9.0; 5]; 4];
+            let sections = &mut out[..order as usize / 2 + 1];
+            assert_eq!(butterworth_sos(response, order, 0.25, 1.0, sections), Ok(()));
+            assert_eq!(sections.last(), Some(&[0.5, b1, 0.0, 0.0, 0.0]));
+        }
     }
     let (_, want) = written::<3>(|out| raw::pel_preemphasis_coefs(75e-6, 48000.0, out));
     assert_eq!(preemphasis_coefs(75e-6, 48000.0), Ok(want));

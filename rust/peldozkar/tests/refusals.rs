@@ -307,12 +307,14 @@ fn six_a_count() {
         range(2.0, 1024.0, 1025.0),
     );
     refused(rrc_len(8, 33), Reason::Count, range(4.0, 32.0, 33.0));
-    let mut sections = [before::<5>(); 2];
-    plain(
-        butterworth_sos(Response::Lowpass, 3, 1000.0, 8000.0, &mut sections),
-        Reason::Count,
-    );
-    sections.iter().for_each(|section| as_it_came(section));
+    for order in [0, 1, 9, u64::MAX] {
+        let mut sections = [before::<5>(); 2];
+        plain(
+            butterworth_sos(Response::Lowpass, order, 1000.0, 8000.0, &mut sections),
+            Reason::Count,
+        );
+        sections.iter().for_each(|section| as_it_came(section));
+    }
     for (channels, branch) in [(12, 8), (512, 8), (16, 3), (16, 33)] {
         let answer =
             lent::<64, _>(|out| channelizer_prototype(channels, branch, 0.5, 1.0, 60.0, out));
@@ -325,7 +327,7 @@ fn seven_a_response_that_butterworth_has_not() {
     for response in [Response::Bandpass, Response::Notch] {
         let mut sections = [before::<5>(); 2];
         plain(
-            butterworth_sos(response, 3, NAN, NAN, &mut sections),
+            butterworth_sos(response, 9, NAN, NAN, &mut sections),
             Reason::Code,
         );
         sections.iter().for_each(|section| as_it_came(section));
@@ -355,13 +357,15 @@ fn eight_a_length() {
         length(128, 64),
     );
     // Sections are told in numbers.
-    let mut sections = [before::<5>(); 3];
-    refused(
-        butterworth_sos(Response::Lowpass, 4, 1000.0, 8000.0, &mut sections),
-        Reason::Length,
-        length(10, 15),
-    );
-    sections.iter().for_each(|section| as_it_came(section));
+    for (order, expected) in [(4, 10), (3, 10), (7, 20)] {
+        let mut sections = [before::<5>(); 3];
+        refused(
+            butterworth_sos(Response::Lowpass, order, 1000.0, 8000.0, &mut sections),
+            Reason::Length,
+            length(expected, 15),
+        );
+        sections.iter().for_each(|section| as_it_came(section));
+    }
 
     let mut numbers = [7_i16; 2];
     refused(

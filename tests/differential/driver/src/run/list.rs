@@ -10,6 +10,7 @@ use crate::run::kinds::{About, kinds};
 use crate::run::random::Random;
 use crate::run::report::{bits, single_bits};
 use crate::run::tickets::{Kind, Ticket};
+use crate::sections::odd;
 use crate::windows::gain;
 
 const SEED: u64 = 0x0123_4567_89AB_CDEF;
@@ -68,8 +69,12 @@ fn fits(about: &About, ticket: &Ticket, answer: &Answer) -> bool {
         && ticket.bytes() <= bytes
 }
 
-/// The words of a ticket's line, or nothing if it is too long: the arguments, then the answer.
+/// The words of a ticket's line, the arguments and then the answer; or nothing if it is too long, or
+/// if the answer isn't the Rust's.
 fn words(about: &About, ticket: &Ticket) -> Option<Vec<u64>> {
+    if odd::answers(ticket) {
+        return None;
+    }
     let answer = designers::rust(ticket);
     let report = answer.report;
     let mut words = ticket.words();

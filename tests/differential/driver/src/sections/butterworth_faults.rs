@@ -9,6 +9,7 @@ use crate::run::faults::{
 use crate::run::report::Report;
 use crate::run::tickets::{Cascade, Kind, Section, Ticket};
 use crate::sections::faults::{edge_refused, nan_refused};
+use crate::sections::odd;
 
 fn cascade(ticket: &Ticket) -> Cascade {
     ticket.cascade().expect("a Butterworth filter")
@@ -16,7 +17,12 @@ fn cascade(ticket: &Ticket) -> Cascade {
 
 /// The refusals, each as if it were tested first.
 fn order_refused(order: u64) -> Option<Report> {
-    (![2, 4, 6, 8].contains(&order)).then(|| Report::plain(6))
+    (!(2..=8).contains(&order)).then(|| Report::plain(6))
+}
+
+/// How many numbers a filter has.
+fn numbers(order: u64) -> u64 {
+    5 * order.div_ceil(2)
 }
 
 /// The refusal of a number of coefficients that the order doesn't have.
@@ -24,7 +30,7 @@ fn numbers_refused(ticket: &Ticket) -> Option<Report> {
     let order = cascade(ticket).order;
     let given = ticket.bytes() / 8;
     let known = order_refused(order).is_none() && ticket.bytes().is_multiple_of(8);
-    (known && 5 * order / 2 != given).then(|| Report::length(5 * order / 2, given))
+    (known && numbers(order) != given).then(|| Report::length(numbers(order), given))
 }
 
 /// The section of another ticket.
@@ -32,22 +38,47 @@ fn coefs(section: Section) -> Vec<f64> {
     designers::rust(&Ticket::BiquadCoefs { section, bytes: 40 }).taps
 }
 
-/// The right answer, its coefficients those of the sections with other qualities; the function
-/// gives the quality of a section by its number from 1 and the order.
-fn requalified(ticket: &Ticket, buffer: &mut [u8], quality: fn(f64, f64) -> f64) -> Report {
+/// The right answer of an order that has this remainder by 2, its sections of second order those of
+/// other qualities; the function gives the quality of a section by its number from 1 and the order.
+fn requalified(
+    ticket: &Ticket,
+    buffer: &mut [u8],
+    remainder: u64,
+    quality: fn(f64, f64) -> f64,
+) -> Report {
     let cascade = cascade(ticket);
     reshaped(ticket, buffer, |numbers| {
-        *numbers = (1..=cascade.order / 2)
-            .flat_map(|k| {
-                coefs(Section {
-                    response: cascade.response,
-                    centre: cascade.cutoff,
-                    q: quality(k as f64, cascade.order as f64),
-                    rate: cascade.rate,
-                })
-            })
-            .collect();
+        if cascade.order % 2 != remainder {
+            return;
+        }
+        for (k, five) in (1..=cascade.order / 2).zip(numbers.chunks_mut(5)) {
+            five.copy_from_slice(&coefs(Section {
+                response: cascade.response,
+                centre: cascade.cutoff,
+                q: quality(k as f64, cascade.order as f64),
+                rate: cascade.rate,
+            }));
+        }
     })
+}
+
+/// The right answer, the last section of an odd order as `change` has made it.
+fn ended(
+    ticket: &Ticket,
+    buffer: &mut [u8],
+    change: impl FnOnce(Cascade, &mut [f64; 5]),
+) -> Report {
+    let cascade = cascade(ticket);
+    reshaped(ticket, buffer, |numbers| {
+        if cascade.order % 2 == 1 {
+            change(cascade, numbers.last_chunk_mut().expect("a section"));
+        }
+    })
+}
+
+/// w0 of a filter.
+fn w0(cascade: Cascade) -> f64 {
+    2.0 * PI * cascade.cutoff / cascade.rate
 }
 
 /// The right answer to the filter of another order.
@@ -82,7 +113,7 @@ pub const FAULTS: &[Fault] = faults![
         let taken = cascade.response == 2
             && order_refused(cascade.order).or(numbers_refused(ticket)).is_none()
             && edge_refused(cascade.cutoff, cascade.rate).is_none();
-        swapped(ticket, buffer, 7, taken.then(|| Report::accepted(5 * cascade.order / 2, 0.0)))
+        swapped(ticket, buffer, 7, taken.then(|| Report::accepted(numbers(cascade.order), 0.0)))
     };
     ButterworthSos, "the length tested before the order", |ticket, buffer| {
         let given = ticket.bytes() / 8;
@@ -132,21 +163,116 @@ pub const FAULTS: &[Fault] = faults![
         ordered(ticket, buffer, |order| order % (1 << 32))
     };
     ButterworthSos, "one quality for all sections", |ticket, buffer| {
-        requalified(ticket, buffer, |_, _| FRAC_1_SQRT_2)
+        requalified(ticket, buffer, 0, |_, _| FRAC_1_SQRT_2)
     };
     ButterworthSos, "the angle in another order", |ticket, buffer| {
-        requalified(ticket, buffer, |k, order| {
+        requalified(ticket, buffer, 0, |k, order| {
             1.0 / (2.0 * libm::cos((2.0 * k - 1.0) * (PI / (2.0 * order))))
         })
     };
     ButterworthSos, "the qualities of twice the order", |ticket, buffer| {
-        requalified(ticket, buffer, |k, order| {
+        requalified(ticket, buffer, 0, |k, order| {
             1.0 / (2.0 * libm::cos((2.0 * k - 1.0) * PI / (4.0 * order)))
         })
     };
     ButterworthSos, "the sine in place of the cosine", |ticket, buffer| {
-        requalified(ticket, buffer, |k, order| {
+        requalified(ticket, buffer, 0, |k, order| {
             1.0 / (2.0 * libm::sin((2.0 * k - 1.0) * PI / (2.0 * order)))
+        })
+    };
+    ButterworthSos, "an odd order refused", |ticket, buffer| {
+        if odd::answers(ticket) && ticket.bytes().is_multiple_of(8) {
+            Report::plain(6)
+        } else {
+            right(ticket, buffer)
+        }
+    };
+    ButterworthSos, "an odd order's sections rounded down", |ticket, buffer| {
+        let order = cascade(ticket).order;
+        changed(ticket, buffer, (8, 2), |report| {
+            if odd::answers(ticket) && ticket.bytes().is_multiple_of(8) {
+                Report::length(5 * (order / 2), report.given)
+            } else {
+                report
+            }
+        })
+    };
+    ButterworthSos, "an odd order's angles of one order more", |ticket, buffer| {
+        requalified(ticket, buffer, 1, |k, order| {
+            1.0 / (2.0 * libm::cos(k * PI / (order + 1.0)))
+        })
+    };
+    ButterworthSos, "an odd order with the angles of an even one", |ticket, buffer| {
+        requalified(ticket, buffer, 1, |k, order| {
+            1.0 / (2.0 * libm::cos((2.0 * k - 1.0) * PI / (2.0 * order)))
+        })
+    };
+    ButterworthSos, "order 3 with a quality of 1", |ticket, buffer| {
+        requalified(ticket, buffer, 1, |k, order| {
+            if order == 3.0 { 1.0 } else { 1.0 / (2.0 * libm::cos(k * PI / order)) }
+        })
+    };
+    ButterworthSos, "the first order before the others", |ticket, buffer| {
+        let order = cascade(ticket).order;
+        reshaped(ticket, buffer, |numbers| {
+            if order % 2 == 1 {
+                numbers.rotate_right(5);
+            }
+        })
+    };
+    ButterworthSos, "a high-pass's first order not negated", |ticket, buffer| {
+        ended(ticket, buffer, |cascade, last| {
+            if cascade.response == 1 {
+                last[1] = last[0];
+            }
+        })
+    };
+    ButterworthSos, "the first order's pole with the other sign", |ticket, buffer| {
+        ended(ticket, buffer, |_, last| last[3] = -last[3])
+    };
+    ButterworthSos, "the first order's pole from the other difference", |ticket, buffer| {
+        ended(ticket, buffer, |cascade, last| {
+            let (s, d) = (libm::sin(w0(cascade)), 1.0 + libm::cos(w0(cascade)));
+            last[3] = -((d - s) / (s + d));
+        })
+    };
+    ButterworthSos, "the first order's b1 in place of b2", |ticket, buffer| {
+        ended(ticket, buffer, |_, last| last.swap(1, 2))
+    };
+    ButterworthSos, "the first order's zeros negative", |ticket, buffer| {
+        ended(ticket, buffer, |_, last| {
+            last[2] = -0.0;
+            last[4] = -0.0;
+        })
+    };
+    ButterworthSos, "the first order by the tangent", |ticket, buffer| {
+        ended(ticket, buffer, |cascade, last| {
+            let t = libm::sin(w0(cascade) / 2.0) / libm::cos(w0(cascade) / 2.0);
+            let b = if cascade.response == 0 { t / (t + 1.0) } else { 1.0 / (t + 1.0) };
+            *last = [b, if cascade.response == 0 { b } else { -b }, 0.0, (t - 1.0) / (t + 1.0), 0.0];
+        })
+    };
+    ButterworthSos, "the first order's sum once and its inverse", |ticket, buffer| {
+        ended(ticket, buffer, |cascade, last| {
+            let (s, d) = (libm::sin(w0(cascade)), 1.0 + libm::cos(w0(cascade)));
+            last[3] = (s - d) * (1.0 / (s + d));
+        })
+    };
+    ButterworthSos, "a section of second order with a quality of 1/2 in its place", |ticket, buffer| {
+        ended(ticket, buffer, |cascade, last| {
+            last.copy_from_slice(&coefs(Section {
+                response: cascade.response,
+                centre: cascade.cutoff,
+                q: 0.5,
+                rate: cascade.rate,
+            }));
+        })
+    };
+    ButterworthSos, "an odd order's zeros where its cutoff overflows", |ticket, buffer| {
+        ended(ticket, buffer, |_, last| {
+            if last[0].is_nan() {
+                *last = [0.0; 5];
+            }
         })
     };
     ButterworthSos, "only the first section written", |ticket, buffer| {

@@ -102,13 +102,19 @@ fn telling_cascades() -> Vec<Ticket> {
         ticket(cascade(1, 4, 1000.0, 48_000.0), 80),
         ticket(cascade(0, 6, 0.3, 1.0), 120),
         ticket(cascade(1, 8, 0.01, 1.0), 160),
+        ticket(cascade(0, 3, 0.1, 1.0), 80),
+        ticket(cascade(1, 5, 1000.0, 48_000.0), 120),
+        ticket(cascade(0, 7, 0.3, 1.0), 160),
         // An unknown response, a length in bytes, a response that it hasn't, the order, a length
         // in numbers, the cutoff.
-        ticket(cascade(4, 3, 0.6, 1.0), 33),
-        ticket(cascade(2, 3, 0.6, 1.0), 33),
-        ticket(cascade(2, 3, 0.6, 1.0), 40),
+        ticket(cascade(4, 9, 0.6, 1.0), 33),
+        ticket(cascade(2, 9, 0.6, 1.0), 33),
+        ticket(cascade(2, 9, 0.6, 1.0), 40),
         ticket(cascade(3, 4, 0.1, 1.0), 80),
+        ticket(cascade(0, 9, 0.6, 1.0), 40),
+        ticket(cascade(2, 3, 0.6, 1.0), 40),
         ticket(cascade(0, 3, 0.6, 1.0), 40),
+        ticket(cascade(0, 3, 0.6, 1.0), 80),
         ticket(cascade(0, 4, 0.6, 1.0), 48),
         ticket(cascade(0, 4, 0.6, 1.0), 40),
         ticket(cascade(0, 4, 0.6, 1.0), 80),
@@ -126,12 +132,18 @@ fn telling_cascades() -> Vec<Ticket> {
         ticket(cascade(0, (1 << 32) + 4, 0.1, 1.0), 80),
         ticket(cascade(0, 0, 0.1, 1.0), 0),
     ];
-    for order in [0, 1, 3, 5, 7, 9, 10, 16, 1 << 32, 1 << 63, u64::MAX] {
+    for order in [0, 1, 9, 10, 16, 1 << 32, (1 << 32) + 3, 1 << 63, u64::MAX] {
         all.push(ticket(cascade(0, order, 0.1, 1.0), 80));
     }
-    for order in [2, 4, 6, 8] {
-        let bytes = 20 * order;
+    for order in [2_u64, 4, 6, 8, 3, 5, 7] {
+        let bytes = 40 * order.div_ceil(2);
         for response in 0..4 {
+            // A quarter of the rate, where the pole of the first order is 0; next to half of it and
+            // next to 0, where the pole is on the circle; and where 2 PI times the cutoff is infinite.
+            for cutoff in [0.25, neighbour(0.5, -1), 0.4999999, 1e-9, 1e-17, SMALLEST] {
+                all.push(ticket(cascade(response, order, cutoff, 1.0), bytes));
+            }
+            all.push(ticket(cascade(response, order, 8e307, HUGE), bytes));
             all.push(ticket(cascade(response, order, 0.2, 1.0), bytes));
             all.extend(ODD.map(|odd| ticket(cascade(response, order, odd, 1.0), bytes)));
             all.extend(ODD.map(|odd| ticket(cascade(response, order, 0.1, odd), bytes)));
@@ -239,28 +251,16 @@ impl Draw<'_> {
     fn butterworth(&mut self) -> Ticket {
         let known = if self.fault() { 4 } else { 2 };
         let response = self.response(known);
-        let good = 2 * (1 + self.random.below(4));
+        let good = 2 + self.random.below(7);
         let any = self.random.bits();
         let order = if self.fault() {
-            let row = [
-                0,
-                1,
-                3,
-                5,
-                7,
-                9,
-                10,
-                any,
-                any % 16,
-                (1 << 32) + good,
-                u64::MAX,
-            ];
+            let row = [0, 1, 9, 10, any, any % 16, (1 << 32) + good, u64::MAX];
             self.one_of(&row)
         } else {
             good
         };
         let [cutoff, rate] = self.edge();
-        let mut numbers = 5 * good / 2;
+        let mut numbers = 5 * good.div_ceil(2);
         if self.fault() {
             let row = [
                 numbers - 1,

@@ -1,8 +1,11 @@
 //! What the kinds of sections, Butterworth filters and pre-emphasis must meet.
 
 use crate::run::cases::{LENGTH, PLAIN, RANGE, case, written};
+use crate::run::designers::Answer;
 use crate::run::kinds::About;
+use crate::run::report::Report;
 use crate::run::tickets::{Cascade, Kind, Section, Ticket};
+use crate::sections::odd::is_odd;
 
 fn of_section(ticket: &Ticket, holds: impl FnOnce(Section) -> bool) -> bool {
     ticket.section().is_some_and(holds)
@@ -17,6 +20,22 @@ fn of_preemphasis(ticket: &Ticket, holds: impl FnOnce(f64, f64) -> bool) -> bool
     ticket
         .preemphasis()
         .is_some_and(|(tau, rate)| holds(tau, rate))
+}
+
+/// Whether a Butterworth filter of this order is accepted, with five numbers for each two poles and
+/// for one left over.
+fn is_order(ticket: &Ticket, report: &Report, order: u64) -> bool {
+    report.is_accepted()
+        && report.count == 5 * order.div_ceil(2)
+        && of_cascade(ticket, |cascade| cascade.order == order)
+}
+
+/// The last section of an accepted filter of odd order with this response.
+fn first_order(ticket: &Ticket, answer: &Answer, response: u64) -> Option<[f64; 5]> {
+    let asked = of_cascade(ticket, |cascade| {
+        cascade.response == response && is_odd(&cascade)
+    });
+    answer.taps.last_chunk().copied().filter(|_| asked)
 }
 
 fn is_rate(rate: f64) -> bool {
@@ -95,16 +114,43 @@ pub const KINDS: &[About] = &[
         refusals: &[(2, RANGE), (6, PLAIN), (7, PLAIN), (8, LENGTH)],
         totals: false,
         cases: &[
-            case!("order 2", |_, report| report.count == 5),
-            case!("order 4", |_, report| report.count == 10),
-            case!("order 6", |_, report| report.count == 15),
-            case!("order 8", |_, report| report.count == 20),
+            case!("order 2", |ticket, report| is_order(ticket, report, 2)),
+            case!("order 3", |ticket, report| is_order(ticket, report, 3)),
+            case!("order 4", |ticket, report| is_order(ticket, report, 4)),
+            case!("order 5", |ticket, report| is_order(ticket, report, 5)),
+            case!("order 6", |ticket, report| is_order(ticket, report, 6)),
+            case!("order 7", |ticket, report| is_order(ticket, report, 7)),
+            case!("order 8", |ticket, report| is_order(ticket, report, 8)),
             case!("a low-pass", |ticket, report| report.is_accepted()
                 && of_cascade(ticket, |cascade| cascade.response == 0)),
             case!("a high-pass", |ticket, report| report.is_accepted()
                 && of_cascade(ticket, |cascade| cascade.response == 1)),
             written!("NaN numbers", |_, answer| {
                 answer.taps.iter().any(|number| number.is_nan())
+            }),
+            written!("a low-pass's first order of NaN", |ticket, answer| {
+                first_order(ticket, answer, 0).is_some_and(|last| {
+                    let nan = last.map(|number| number.is_nan());
+                    nan == [true, true, false, true, false]
+                })
+            }),
+            written!(
+                "a low-pass's pole on the circle under its zero",
+                |ticket, answer| {
+                    first_order(ticket, answer, 0) == Some([1.0, 1.0, 0.0, 1.0, 0.0])
+                }
+            ),
+            written!("a high-pass's pole on the circle", |ticket, answer| {
+                first_order(ticket, answer, 1).is_some_and(|last| last[3] == 1.0)
+            }),
+            written!(
+                "a high-pass's pole on the circle under its zero",
+                |ticket, answer| {
+                    first_order(ticket, answer, 1) == Some([1.0, -1.0, 0.0, -1.0, 0.0])
+                }
+            ),
+            written!("a pole of 0", |ticket, answer| {
+                first_order(ticket, answer, 0).is_some_and(|last| last[3] == 0.0)
             }),
             case!("7 before a length in bytes", |ticket, report| {
                 report.number == 7 && ticket.bytes() % 8 != 0
@@ -124,12 +170,19 @@ pub const KINDS: &[About] = &[
             case!("7 by a notch before the order", |ticket, report| {
                 report.number == 7
                     && of_cascade(ticket, |cascade| {
-                        cascade.response == 3 && cascade.order % 2 == 1
+                        cascade.response == 3 && !(2..=8).contains(&cascade.order)
                     })
             }),
-            case!("6 by an odd order", |ticket, report| report.number == 6
-                && of_cascade(ticket, |cascade| [3, 5, 7]
-                    .contains(&cascade.order))),
+            case!("7 by a notch of odd order", |ticket, report| {
+                report.number == 7
+                    && of_cascade(ticket, |cascade| {
+                        cascade.response == 3 && [3, 5, 7].contains(&cascade.order)
+                    })
+            }),
+            case!("6 by an order of 1", |ticket, report| report.number == 6
+                && of_cascade(ticket, |cascade| cascade.order == 1)),
+            case!("6 by an order of 9", |ticket, report| report.number == 6
+                && of_cascade(ticket, |cascade| cascade.order == 9)),
             case!("6 by an order of 0", |ticket, report| report.number == 6
                 && of_cascade(ticket, |cascade| cascade.order == 0)),
             case!("6 by an order of 10", |ticket, report| report.number == 6
@@ -139,6 +192,11 @@ pub const KINDS: &[About] = &[
             }),
             case!("8 by another number of sections", |ticket, report| {
                 report.number == 8 && ticket.bytes() % 40 == 0
+            }),
+            case!("8 by an odd order's last section", |ticket, report| {
+                report.number == 8
+                    && report.expected == report.given + 5
+                    && of_cascade(ticket, |cascade| cascade.order % 2 == 1)
             }),
             case!(
                 "8 in numbers before a rate that isn't taken",

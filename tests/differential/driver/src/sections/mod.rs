@@ -1,10 +1,12 @@
-//! Both sides' answers to a second-order section, a Butterworth filter and a pre-emphasis.
+//! The answers to a second-order section, a Butterworth filter and a pre-emphasis: the Rust's, and
+//! the request's to Butterworth filters of odd order.
 
 pub mod bench;
 pub mod butterworth_faults;
 pub mod faults;
 pub mod inputs;
 pub mod kinds;
+pub mod odd;
 
 use sdrk_blocks::Result;
 use sdrk_blocks::design::{BiquadResponse, biquad_coefs, butterworth_sos, preemphasis_coefs};
@@ -56,8 +58,9 @@ pub fn preemphasis(tau: f64, rate: f64, bytes: u64) -> Answer {
     coefs(bytes, || preemphasis_coefs(tau, rate))
 }
 
-/// The Rust's Butterworth filter. Its buffers are whole sections, so one that isn't is put to it
-/// as an empty one: that is as wrong, and comes at the same place in the order.
+/// The Rust's Butterworth filter, of an odd order the request's. The Rust's buffers are whole
+/// sections, so one that isn't is put to it as an empty one: that is as wrong, and comes at the same
+/// place in the order.
 pub fn butterworth(cascade: &Cascade, bytes: u64) -> Answer {
     let Some(response) = response(cascade.response) else {
         return Report::plain(7).into();
@@ -66,6 +69,9 @@ pub fn butterworth(cascade: &Cascade, bytes: u64) -> Answer {
         return Report::length(bytes - bytes % 8, bytes).into();
     }
     let count = bytes / 8;
+    if odd::is_odd(cascade) {
+        return odd::filter(response, cascade, count);
+    }
     let lent = if count.is_multiple_of(5) { count } else { 0 };
     let mut numbers: Vec<f64> = elements(lent);
     let (sections, _) = numbers.as_chunks_mut::<5>();
