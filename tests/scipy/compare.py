@@ -356,6 +356,37 @@ def rrc(port):
 
 # ---- sections ---------------------------------------------------------------------------------------
 
+RESPONSES = (LOWPASS, "lowpass"), (HIGHPASS, "highpass")
+
+
+def cascade(port, response, order, cutoff, rate):
+    """The sections of a Butterworth filter as SciPy has them, with a0."""
+    numbers = port.made("butterworth_sos", "<f8", 5 * ((order + 1) // 2), response, order, cutoff, rate)
+    return np.insert(numbers.reshape(-1, 5), 3, 1.0, axis=1)
+
+
+def butterworths(port, orders, poles, whole):
+    """Butterworth filters of these orders, their poles and responses held; each with SciPy's sections."""
+    points = np.linspace(0, np.pi, 65)
+    for response, name in RESPONSES:
+        for order in orders:
+            for fraction in np.concatenate([random.uniform(0.01, 0.49, 60), [0.01, 0.25, 0.49]]):
+                rate = spread(1, 1e9)
+                cutoff = fraction * rate
+                ours = cascade(port, response, order, cutoff, rate)
+                theirs = signal.butter(order, cutoff, name, fs=rate, output="sos")
+                case = f"{name} of order {order}, {cutoff!r} at {rate!r}"
+                yield case, ours, theirs
+                a = np.concatenate([np.roots(section[3:][:order - 2 * i + 1]) for i, section in enumerate(ours)])
+                b = signal.butter(order, cutoff, name, fs=rate, output="zpk")[1]
+                nearest = np.abs(a[:, None] - b).argmin(axis=0)
+                must(f"{case}: a pole for each", len(a) == order and len(set(nearest)) == order)
+                a = a[nearest]
+                poles.add(case, np.concatenate([a.real, a.imag]), np.concatenate([b.real, b.imag]))
+                a, b = signal.sosfreqz(ours, points)[1], signal.sosfreqz(theirs, points)[1]
+                whole.add(case, np.concatenate([a.real, a.imag]), np.concatenate([b.real, b.imag]))
+
+
 def sections(port):
     # Coefficients of size 2 at most: cos w0 and sin w0 to 3 u, w0's own rounding 2 u of pi, four operations, and the
     # same through SciPy's poles.
@@ -388,25 +419,8 @@ def sections(port):
     under = Held("butterworth, a1 and a2", "signal.butter", "absolute", 16 * u)
     poles = Held("butterworth, poles", "signal.butter", "absolute", 16 * 43 * u)
     whole = Held("butterworth, response", "signal.sosfreqz", "absolute", 6 / 0.0014 * u)
-    points = np.linspace(0, np.pi, 65)
-    for response, name in ((LOWPASS, "lowpass"), (HIGHPASS, "highpass")):
-        for order in (2, 4, 6, 8):
-            for fraction in np.concatenate([random.uniform(0.01, 0.49, 60), [0.01, 0.25, 0.49]]):
-                rate = spread(1, 1e9)
-                cutoff = fraction * rate
-                ours = port.made("butterworth_sos", "<f8", 5 * order // 2, response, order, cutoff, rate).reshape(-1, 5)
-                ours = np.insert(ours, 3, 1.0, axis=1)
-                theirs = signal.butter(order, cutoff, name, fs=rate, output="sos")
-                case = f"{name} of order {order}, {cutoff!r} at {rate!r}"
-                under.add(case, ours[:, 4:].ravel(), theirs[:, 4:].ravel())
-                a = np.concatenate([np.roots(section[3:]) for section in ours])
-                b = signal.butter(order, cutoff, name, fs=rate, output="zpk")[1]
-                nearest = np.abs(a[:, None] - b).argmin(axis=0)
-                must(f"{case}: a pole for each", len(set(nearest)) == order)
-                a = a[nearest]
-                poles.add(case, np.concatenate([a.real, a.imag]), np.concatenate([b.real, b.imag]))
-                a, b = signal.sosfreqz(ours, points)[1], signal.sosfreqz(theirs, points)[1]
-                whole.add(case, np.concatenate([a.real, a.imag]), np.concatenate([b.real, b.imag]))
+    for case, ours, theirs in butterworths(port, (2, 4, 6, 8), poles, whole):
+        under.add(case, ours[:, 4:].ravel(), theirs[:, 4:].ravel())
 
     # Five operations on numbers that SciPy happens to work out in the same order: two roundings' room.
     held = Held("preemphasis", "signal.bilinear", "of the largest", 4 * u)
@@ -554,6 +568,44 @@ def delays(port):
         add(held, f"{channels} channels, branch {branch}", taps, 0.75 / channels)
 
 
+# ---- Butterworth filters of odd order, and the square of every one's response ----------------------------
+
+def odd_orders(port):
+    # As those of even order: the pairs are 2 sin(pi/7) w0 apart at least, 18 from w0 >= 0.06; the lowest denominator is
+    # 2 cos(3 pi/7) w0^2 = 0.0017. SciPy has the section of first order, whose b2 and a2 are 0, at another place.
+    poles = Held("odd orders, poles", "signal.butter", "absolute", 16 * 19 * u)
+    whole = Held("odd orders, response", "signal.sosfreqz", "absolute", 6 / 0.0017 * u)
+    for case, ours, theirs in butterworths(port, (3, 5, 7), poles, whole):
+        must(f"{case}: the last of first order, as one of SciPy's",
+             not ours[-1, [2, 5]].any() and np.count_nonzero(theirs[:, 5] == 0) == 1)
+        must(f"{case}: the others not", ours[:-1, [2, 5]].all())
+
+    # |H|^2 = 1/(1 + T^2n) with T = tan(w/2)/tan(w0/2), the other way up for a high-pass, worked out with more digits
+    # than a double has, so that what is seen comes from the coefficients alone. With m the lesser of sin(w0/2)^2 and
+    # cos(w0/2)^2, a section's b errs by 3 u over 2 m, and its lower part, which is 2 m/q at least, by 12 u: in the
+    # square twice that, 3 + 12 q of u/m. Over the sections of order 8, whose q are 4.6 together, that is 67 u/m. The
+    # section of first order errs by less.
+    long = np.longdouble
+    pi = 4 * np.arctan(long(1))
+    must("more digits than a double", np.finfo(long).eps < u / 1000)
+    w = pi * np.arange(1, 64) / 64
+    z = np.exp(-1j * w)
+    for name, orders in (("|H|^2, even orders", (2, 4, 6, 8)), ("|H|^2, odd orders", (3, 5, 7))):
+        held = Held(name, "1/(1 + T^2n)", "of itself/m", 67 * u)
+        for response, kind in RESPONSES:
+            for order in orders:
+                for fraction in [random.uniform(0.001, 0.499) for _ in range(60)] + [1e-5, 1e-3, 0.25, 0.499, 0.49999]:
+                    rate = spread(1, 1e9)
+                    cutoff = fraction * rate
+                    b0, b1, b2, _, a1, a2 = cascade(port, response, order, cutoff, rate).astype(long).T[:, :, None]
+                    ours = np.prod(np.abs((b0 + z * (b1 + z * b2)) / (1 + z * (a1 + z * a2))) ** 2, axis=0)
+                    t = np.tan(w / 2) / np.tan(pi * long(cutoff) / long(rate))
+                    theirs = 1 / (1 + (t if response == LOWPASS else 1 / t) ** (2 * order))
+                    m = np.sin(pi * long(min(cutoff, rate / 2 - cutoff)) / long(rate)) ** 2
+                    held.add(f"{kind} of order {order}, {cutoff!r} at {rate!r}", ours / theirs, np.ones(len(w)),
+                             np.full(len(w), float(1 / m)))
+
+
 def main():
     parser = argparse.ArgumentParser()
     parser.add_argument("library")
@@ -562,7 +614,7 @@ def main():
     Held.wrong = words.wrong
     port = Port(words.library)
     for part in (elementary, kaiser, lowpass, halfband, channelizer, gaussian, rrc, sections, formats, windows,
-                 long_ones, delays):
+                 long_ones, delays, odd_orders):
         part(port)
     if words.wrong and words.wrong not in [held.name for held in Held.rows]:
         sys.exit(f"no comparison is named {words.wrong!r}")

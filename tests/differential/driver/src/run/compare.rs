@@ -83,6 +83,8 @@ pub struct Tally {
     pub compared: u64,
     pub accepted: u64,
     pub differ: u64,
+    /// How many of the compared ones a request's definition answers, and not the Rust.
+    pub requested: u64,
     /// How often each refusal was met, by its number and what it carries.
     refused: BTreeMap<(u32, u32), u64>,
     /// Whether each of the kind's cases was met.
@@ -114,6 +116,7 @@ impl Tally {
         let mut buffer = Lent::new(ticket.bytes(), self.lent.wrapping_add(self.compared));
         let other = side(ticket, buffer.part());
         self.compared += 1;
+        self.requested += u64::from(designers::is_requested(ticket));
         if report.is_accepted() {
             self.accepted += 1;
         } else {
@@ -160,7 +163,7 @@ impl Tally {
 
     /// All that was counted, as words that [`Tally::of_words`] takes back.
     pub fn words(&self) -> Vec<u64> {
-        let mut words = vec![self.compared, self.accepted, self.differ];
+        let mut words = vec![self.compared, self.accepted, self.differ, self.requested];
         words.push(self.refused.len() as u64);
         for (&(number, carries), &times) in &self.refused {
             words.extend([u64::from(number), u64::from(carries), times]);
@@ -176,6 +179,7 @@ impl Tally {
         tally.compared = words.next()?;
         tally.accepted = words.next()?;
         tally.differ = words.next()?;
+        tally.requested = words.next()?;
         for _ in 0..words.next()? {
             let number = words.next()?.try_into().ok()?;
             let carries = words.next()?.try_into().ok()?;
@@ -198,6 +202,7 @@ impl Tally {
         self.compared += other.compared;
         self.accepted += other.accepted;
         self.differ += other.differ;
+        self.requested += other.requested;
         for (&refusal, times) in &other.refused {
             *self.refused.entry(refusal).or_default() += times;
         }
@@ -207,7 +212,8 @@ impl Tally {
         self.totals.add(&other.totals);
     }
 
-    /// The refusals met, as `number: how many with what they carry`.
+    /// The refusals met, as `number: how many with what they carry`, and how many tickets aren't the
+    /// Rust's.
     fn table(&self) -> String {
         let mut text = String::new();
         let mut last = 0;
@@ -218,6 +224,9 @@ impl Tally {
                 format!("; {number}: {times} {}", carried(carries))
             };
             last = number;
+        }
+        if self.requested > 0 {
+            text += &format!("; {} by a request's definition", self.requested);
         }
         text
     }

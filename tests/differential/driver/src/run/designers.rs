@@ -191,6 +191,11 @@ pub fn rust(ticket: &Ticket) -> Answer {
     }
 }
 
+/// Whether the answer is a request's definition: the Rust has another, or none.
+pub fn is_requested(ticket: &Ticket) -> bool {
+    matches!(ticket, Ticket::Delay { .. }) || sections::odd::answers(ticket)
+}
+
 /// The port's answer; the buffer has the length that the ticket says.
 pub fn port(ticket: &Ticket, buffer: &mut [u8]) -> Report {
     match *ticket {

@@ -1,11 +1,12 @@
-//! Times sections, Butterworth filters and pre-emphasis on both sides.
+//! Times sections, Butterworth filters and pre-emphasis on both sides, and an odd order, which the
+//! Rust hasn't, beside an even one.
 
 use std::f64::consts::FRAC_1_SQRT_2;
 use std::hint::black_box;
 
 use sdrk_blocks::design::{BiquadResponse, biquad_coefs, butterworth_sos, preemphasis_coefs};
 
-use crate::run::bench::{CUTOFFS, time_design};
+use crate::run::bench::{CUTOFFS, pass, rounds, time_design};
 use crate::run::port;
 use crate::run::tickets::{Cascade, Section};
 
@@ -32,14 +33,15 @@ pub fn run() {
                 .is_ok()
         },
     );
-    let cascade = |cutoff| {
+    let filter = |response, order, cutoff| {
         black_box(Cascade {
-            response: 0,
-            order: 8,
+            response,
+            order,
             cutoff,
             rate: 1.0,
         })
     };
+    let cascade = |cutoff| filter(0, 8, cutoff);
     time_design(
         "butterworth_sos, order 8",
         (20, "numbers"),
@@ -52,6 +54,20 @@ pub fn run() {
             butterworth_sos(response, order as usize, cutoff, rate, sections).is_ok()
         },
     );
+    for (response, name) in [(0, "low-pass"), (1, "high-pass")] {
+        let time = |order| {
+            let mut out = [0; 160];
+            pass(&CUTOFFS, 20, |cutoff| {
+                let cascade = filter(response, order, cutoff);
+                port::butterworth_sos(&cascade, black_box(&mut out)).is_accepted()
+            })
+        };
+        let (seven, eight) = rounds(|| time(7), || time(8));
+        println!(
+            "butterworth_sos, {name}: order 7 {seven:.3} us, order 8 {eight:.3} us, ratio {:.2}",
+            seven / eight,
+        );
+    }
     time_design(
         "preemphasis_coefs",
         (3, "numbers"),

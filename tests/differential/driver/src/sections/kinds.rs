@@ -110,7 +110,8 @@ pub const KINDS: &[About] = &[
         kind: Kind::ButterworthSos,
         name: "butterworth_sos",
         number: 36,
-        share: 6,
+        // Of the orders drawn 4 of 7 are the Rust's.
+        share: 11,
         refusals: &[(2, RANGE), (6, PLAIN), (7, PLAIN), (8, LENGTH)],
         totals: false,
         cases: &[
