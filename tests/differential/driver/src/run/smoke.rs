@@ -1,7 +1,11 @@
 //! A few answers of the unchanged Rust files that the scope document and its requests give, to show that they run.
 
+use std::f64::consts::PI;
+
 use sdrk_blocks::access::Lowpass;
-use sdrk_blocks::design::{DesignWindow, halfband_len, kaiserord, rrc_len};
+use sdrk_blocks::design::{
+    BiquadResponse, DesignWindow, butterworth_sos, halfband_len, kaiserord, rrc_len,
+};
 use sdrk_core::C32;
 use sdrk_core::kernels::channelize::{
     ChannelizeState, MAX_CHANNELS, MAX_TAPS_PER_BRANCH, MIN_CHANNELS, MIN_TAPS_PER_BRANCH,
@@ -11,7 +15,7 @@ use sdrk_core::timing::{Delay, Timing};
 use sdrk_core::window::bessel_i0;
 
 use crate::run::designers::rust;
-use crate::run::tickets::{Band, Channels, Pulse, Source, Spec, Ticket};
+use crate::run::tickets::{Band, Cascade, Channels, Pulse, Section, Source, Spec, Ticket};
 
 /// Whether the Rust's channelizer tells as many halves of a sample as its delay has half samples.
 fn tells_half_samples(channels: usize, branch: usize) -> bool {
@@ -33,6 +37,53 @@ fn prototypes_tell_half_samples() -> bool {
     channels.all(|channels| {
         let mut branches = MIN_TAPS_PER_BRANCH..=MAX_TAPS_PER_BRANCH;
         branches.all(|branch| tells_half_samples(channels, branch))
+    })
+}
+
+/// Whether the Rust refuses an order that the request's definition has in its place.
+fn refuses(order: usize) -> bool {
+    let mut sections = vec![[0.0; 5]; order.div_ceil(2)];
+    butterworth_sos(BiquadResponse::Lowpass, order, 0.1, 1.0, &mut sections).is_err()
+}
+
+/// Whether the section that a filter of odd order ends with, twice, is the Rust's section with a
+/// quality of 1/2, whose two poles are one. The nearer the cutoff comes to half the rate, the more
+/// places 1 + cos w0 has lost, and the sine is as small.
+fn twice_is_a_section(response: u64, order: u64, cutoff: f64) -> bool {
+    let bytes = 20 * (order + 1);
+    let cascade = Cascade {
+        response,
+        order,
+        cutoff,
+        rate: 1.0,
+    };
+    let numbers = rust(&Ticket::ButterworthSos { cascade, bytes }).taps;
+    let Some(&[b0, b1, 0.0, a1, 0.0]) = numbers.last_chunk() else {
+        return false;
+    };
+    let twice = [b0 * b0, 2.0 * b0 * b1, b1 * b1, 2.0 * a1, a1 * a1];
+    let section = Section {
+        response,
+        centre: cutoff,
+        q: 0.5,
+        rate: 1.0,
+    };
+    let once = rust(&Ticket::BiquadCoefs { section, bytes: 40 }).taps;
+    let near = 1e-15 / libm::sin(2.0 * PI * cutoff);
+    once.iter()
+        .zip(twice)
+        .all(|(once, twice)| (once - twice).abs() < near)
+}
+
+/// At cutoffs from next to 0 to next to half the rate.
+fn first_orders_are_half_a_section() -> bool {
+    (1..500).all(|thousandths| {
+        let cutoff = f64::from(thousandths) / 1000.0;
+        [0, 1].into_iter().all(|response| {
+            [3, 5, 7]
+                .into_iter()
+                .all(|order| twice_is_a_section(response, order, cutoff))
+        })
     })
 }
 
@@ -118,6 +169,8 @@ pub fn run() -> bool {
         converted.report.index == 2 && converted.fixed == [32767, -32768],
         [rrc(2, 4).count, rrc(1024, 32).count] == [9, 32769],
         (rrc(1, 4).number, rrc(1, 4).largest) == (6, 1024.0),
+        [3, 5, 7].into_iter().all(refuses),
+        first_orders_are_half_a_section(),
         q14_from_f64(-2.0 - half) == Some(-32768),
         q14_from_f64(2.0 - half).is_none(),
         q14(-2.0 - half).value == -32768.0,
