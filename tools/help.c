@@ -67,7 +67,7 @@ static const struct help helps[] = {
      "  --order N          2 to 8; an odd one ends with a section of first order, its b2 and a2 being 0\n"
      "  --cutoff HZ        where the response is down by 3.01 dB; above 0 and below half the rate\n" RATE_HELP
          SECTION_HELP,
-     "butterworth --response lowpass --order 4 --cutoff 6000 --rate 48000"},
+     "butterworth --response highpass --order 3 --cutoff 2000 --rate 48000"},
     {"preemphasis", "first-order pre-emphasis, b0 b1 a1 with a0 = 1",
      "  --tau SECONDS      the time constant; above 0, and a millisecond or less\n"
      "  --rate HZ          samples a second; finite, and 40000 or more\n"

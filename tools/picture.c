@@ -182,6 +182,8 @@ void show_butterworth(const struct ticket *t, size_t n, struct picture *p)
     double hertz = in_hertz(p, t->rate);
     mark_at(p, "cutoff", t->cutoff / hertz);
     mark_level(p, 0.0, half_power);
+    /* What an order is for shows in the stopband, however narrow that is. */
+    p->deepest = -60.0;
 }
 
 /* Where an analogue network of this time constant has risen by 3 dB. */
