@@ -41,8 +41,8 @@ unfoldable pub qualityOf : ℕ → ℕ → Float
 unfolding angleOf
 qualityOf order i = whole 1 ⊘ (whole 2 ⊗ cosOf (angleOf order i))
 
--- the section of first order; b2 and a2, the coefficients two samples back, are 0. Other responses are refused, and
--- have zeros as a section that is
+-- the section of first order; b2 and a2, the coefficients two samples back, are 0. A band-pass and a notch, which are
+-- refused before, have the zeros of a section that is refused
 unfoldable pub firstOrderOf : Response → Float → Float → List Float
 firstOrderOf Lowpass s d = s ⊘ (s ⊕ d) ∷ s ⊘ (s ⊕ d) ∷ whole 0 ∷ (s ⊖ d) ⊘ (s ⊕ d) ∷ whole 0 ∷ []
 firstOrderOf Highpass s d = d ⊘ (s ⊕ d) ∷ neg (d ⊘ (s ⊕ d)) ∷ whole 0 ∷ (s ⊖ d) ⊘ (s ⊕ d) ∷ whole 0 ∷ []

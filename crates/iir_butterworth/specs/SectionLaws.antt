@@ -1,7 +1,7 @@
 -- Laws of sections: every section has five numbers, they are stored one after the other, and every quality of a
 -- Butterworth filter is taken. Assumes nothing.
 use Prim.Native.Nat.{ℕ, zero, suc, _+_, _*_, _/_, _%_, _<_, _≤_}
-use mathlib.Core.Path.{_≡_, refl, sym, ap, _∙_, subst}
+use mathlib.Core.Path.{_≡_, refl, sym, ap, _∙_}
 use mathlib.Core.Bool.{Bool, true, false, cond, _&&_}
 use mathlib.Core.List.{List, [], _∷_}
 use native.Mathlib.Nat.{not-suc-le-zero, le-of-suc-le-suc, zero-lt-suc, suc-le-suc-iff}
@@ -11,7 +11,7 @@ use lib.Dec.{leb, eqb}
 use lib.ListN.{length, set, take, getD}
 use lib.Seq.{sets}
 use lib.Ieee.{Float, nan, ofBits, ofInt, round, add, sub, mul, div, neg, lt, le}
-use Rattle.laws.specs.Binary64.{_⊗_, _⊘_, whole, pi, fact, over, nested}
+use Rattle.laws.specs.Binary64.{_⊗_, _⊘_, whole, fact, over, nested}
 use Rattle.laws.specs.Filled.{filled, fill-more}
 use Rattle.laws.specs.Floor.{floorZ}
 use Rattle.laws.specs.Tests.{both}

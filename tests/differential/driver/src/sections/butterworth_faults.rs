@@ -252,7 +252,7 @@ pub const FAULTS: &[Fault] = faults![
             *last = [b, if cascade.response == 0 { b } else { -b }, 0.0, (t - 1.0) / (t + 1.0), 0.0];
         })
     };
-    ButterworthSos, "the first order's sum once and its inverse", |ticket, buffer| {
+    ButterworthSos, "the first order's pole by a product with the inverse", |ticket, buffer| {
         ended(ticket, buffer, |cascade, last| {
             let (s, d) = (libm::sin(w0(cascade)), 1.0 + libm::cos(w0(cascade)));
             last[3] = (s - d) * (1.0 / (s + d));
