@@ -4,17 +4,15 @@ use mathlib.Core.List.{List}
 use Prim.Native.Nat.{ℕ}
 use lib.Ieee.{Float}
 use Rattle.fir_halfband.specs.Halfband as Halfband
-use Rattle.fir_halfband.specs.HalfbandLaws.{is-design, has-series}
 use Rattle.fir_halfband.specs.declared.HalfbandDesigned.{HalfbandDesigned}
-use Rattle.fir_halfband.specs.declared.HalfbandPrepared.{HalfbandPrepared}
 use Rattle.fir_gaussian.specs.Gaussian as Gaussian
 use Rattle.fir_gaussian.specs.declared.gaussian_design.GaussianDesigned.{GaussianDesigned}
 use Rattle.wire.specs.Writes.{Room}
 use Rattle.c_pulses.specs.Sources.{FitsHalfband, FitsGaussian}
 
 module _ (len : ℕ) {rs : List Float} where
-  pub fits-halfband : {d : HalfbandDesigned} {p : HalfbandPrepared} → Halfband.PreparesHalfband d p rs → Room len (Halfband.outcomeOf d) → FitsHalfband p rs len
-  fits-halfband h m = record { normed = has-series h; raws = h .raws; room = subst (λ (z : HalfbandDesigned). Room len (Halfband.outcomeOf z)) (sym (is-design h)) m }
+  pub fits-halfband : {d r : HalfbandDesigned} → Halfband.PreparesHalfband d r rs → Room len (Halfband.outcomeOf d) → FitsHalfband r rs len
+  fits-halfband h m = record { raws = h .raws; room = subst (λ (z : HalfbandDesigned). Room len (Halfband.outcomeOf z)) (sym (h .is)) m }
 
   pub fits-gaussian : {d r : GaussianDesigned} → Gaussian.PreparesGaussian d r rs → Room len (Gaussian.outcomeOf d) → FitsGaussian r rs len
   fits-gaussian h m = record { raws = h .raws; room = subst (λ (z : GaussianDesigned). Room len (Gaussian.outcomeOf z)) (sym (h .is)) m }

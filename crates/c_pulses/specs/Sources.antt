@@ -1,17 +1,15 @@
--- What comes of a half-band or a pulse, and what writing its taps needs: the series at its beta, the raw taps that were
--- kept, and room. Definitions only.
+-- What comes of a half-band or a pulse, and what writing its taps needs: the raw taps that were kept, and room.
+-- Definitions only.
 use Prim.Native.Nat.{ℕ}
 use mathlib.Core.Path.{_≡_}
 use mathlib.Core.List.{List}
 use lib.Ieee.{Float}
 use Rattle.verdict.specs.Outcome.{Outcome}
-use Rattle.fir_sinc.specs.Windows.{normOf}
 use Rattle.fir_lowpass.specs.Cached.{Caches}
 use Rattle.fir_halfband.specs.Halfband as Halfband
 use Rattle.fir_halfband.specs.declared.HalfbandDesign.{HalfbandDesign}
 use Rattle.fir_halfband.specs.declared.HalfbandDesigned.{HalfbandDesigned}
 use Rattle.fir_halfband.specs.declared.HalfbandDesigned.the-variants as HalfbandDesigned
-use Rattle.fir_halfband.specs.declared.HalfbandPrepared.{HalfbandPrepared}
 use Rattle.fir_gaussian.specs.Gaussian as Gaussian
 use Rattle.fir_gaussian.specs.declared.gaussian_design.Gaussian.{Gaussian}
 use Rattle.fir_gaussian.specs.declared.gaussian_design.GaussianDesigned.{GaussianDesigned}
@@ -30,12 +28,11 @@ ofGaussian d = Gaussian.outcomeOf d
 abbrev pub ofRrc : RrcDesigned → Outcome
 ofRrc d = Rrc.outcomeOf d
 
--- ---- what a writer needs of a design, where it is one: the series at its beta, a list that keeps its first raw taps,
--- and a buffer of len bytes for its taps
-pub record FitsHalfband (p : HalfbandPrepared) (rs : List Float) (len : ℕ) : Type 0 where
-  pub normed : (d : HalfbandDesign) → p .designed ≡ HalfbandDesigned.Ready d → p .i0 ≡ normOf (d .lp .window)
-  pub raws : (d : HalfbandDesign) → p .designed ≡ HalfbandDesigned.Ready d → Caches (d .lp) (p .i0) rs
-  pub room : Room len (ofHalfband (p .designed))
+-- ---- what a writer needs of a design, where it is one: a list that keeps its first raw taps, and a buffer of len
+-- bytes for its taps
+pub record FitsHalfband (d : HalfbandDesigned) (rs : List Float) (len : ℕ) : Type 0 where
+  pub raws : (h : HalfbandDesign) → d ≡ HalfbandDesigned.Ready h → Caches (h .lp) rs
+  pub room : Room len (ofHalfband d)
 
 pub record FitsGaussian (d : GaussianDesigned) (rs : List Float) (len : ℕ) : Type 0 where
   pub raws : (g : Gaussian) → d ≡ GaussianDesigned.Ready g → Gaussian.Caches g rs

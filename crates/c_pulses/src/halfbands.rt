@@ -39,6 +39,6 @@ pub extern "C" fn pel_halfband(beta: f64, out: &mut [u8]) -> Report
         return verdict::refused(Refusal::Length(len - len % 8, len));
     }
     let mut raws = [0.0f64; CACHED];
-    let p = fir_halfband::prepare(beta, len / 8, &mut raws);
-    write_halfband(p, &raws, &mut *out)
+    let designed = fir_halfband::prepare(beta, len / 8, &mut raws);
+    write_halfband(designed, &raws, &mut *out)
 }

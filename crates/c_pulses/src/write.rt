@@ -1,7 +1,6 @@
 // The taps of a half-band or a pulse in a buffer that it fits, and the report of it; a refusal told.
 use fir_gaussian::gaussian_design::GaussianDesigned;
 use fir_halfband::HalfbandDesigned;
-use fir_halfband::HalfbandPrepared;
 use fir_rrc::design::RrcDesigned;
 use ticket_taps::Source;
 use ticket_taps::put_taps;
@@ -14,14 +13,13 @@ ghost use Rattle.c_pulses.specs.Sources.{ofHalfband, ofGaussian, ofRrc, 
 
 // Writes the taps of a half-band that the buffer fits, and tells their number and their divisor; tells a refusal, and
 // leaves the buffer.
-pub(crate) fn write_halfband(p: HalfbandPrepared, raws: &[f64], out: &mut [u8]) -> Report
-    requires { ⌜ FitsHalfband p (now raws) (length (now out)) ⌝ }
-    ensures { λ r. ⌜ Writes floatBytes (ofHalfband (p .designed)) (now (out .entry)) r (now (out .exit)) ⌝ }
+pub(crate) fn write_halfband(designed: HalfbandDesigned, raws: &[f64], out: &mut [u8]) -> Report
+    requires { ⌜ FitsHalfband designed (now raws) (length (now out)) ⌝ }
+    ensures { λ r. ⌜ Writes floatBytes (ofHalfband designed) (now (out .entry)) r (now (out .exit)) ⌝ }
 {
-    let designed = p.designed;
     match designed {
         HalfbandDesigned::Ready(d) => {
-            put_taps(Source::Halfband(d, p.i0), raws, &mut *out);
+            put_taps(Source::Halfband(d), raws, &mut *out);
             verdict::accepted(d.n, d.sum)
         }
         HalfbandDesigned::Refused(why) => verdict::refused(why),

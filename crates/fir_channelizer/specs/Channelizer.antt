@@ -18,7 +18,7 @@ use Rattle.verdict.specs.declared.Refusal.the-variants as Refusal
 use Rattle.fir_length.specs.Kaiser.{betaOf, estimate}
 use Rattle.verdict.specs.declared.Length.{Length}
 use Rattle.verdict.specs.declared.Length.the-variants as Length
-use Rattle.fir_lowpass.specs.Lowpass.{lowpassOf}
+use Rattle.fir_lowpass.specs.Lowpass.{wherePassed, lowpassOf}
 use Rattle.fir_sinc.specs.declared.window.Window.the-variants.{Kaiser}
 use Rattle.fir_lowpass.specs.declared.lowpass.Designed.{Designed}
 use Rattle.fir_lowpass.specs.declared.lowpass.Designed.the-variants as Designed
@@ -72,17 +72,13 @@ branchOf m (Length.Taps n) = Length.Taps (upward n m)
 branchOf m (Length.Refused why) = Length.Refused why
 
 -- ---- the prototype
-abbrev pub lowpassIn : Verdict → Designed → Designed
-lowpassIn Verdict.Done design = design
-lowpassIn (Verdict.Refused why) design = Designed.Refused why
-
 -- a ticket is accepted where the answer is `Ready`
 unfoldable pub channelizerLowpassOf : ℕ → ℕ → Float → Float → Float → Designed
 unfolding channelsTaken branchTaken edgesOf
 channelizerLowpassOf m l passband stopband a =
     cond (channelsTaken m)
     (cond (branchTaken l)
-    (lowpassIn (edgesOf passband stopband a) (lowpassOf ((passband ⊕ stopband) ⊘ (whole 2 ⊗ whole m)) (whole 1) (Kaiser (betaOf a)) (m * l)))
+    (wherePassed (edgesOf passband stopband a) (lowpassOf ((passband ⊕ stopband) ⊘ (whole 2 ⊗ whole m)) (whole 1) (Kaiser (betaOf a)) (m * l)))
     (Designed.Refused (Refusal.Plain badCount)))
     (Designed.Refused (Refusal.Plain badCount))
 

@@ -19,15 +19,14 @@ use Rattle.verdict.specs.declared.Refusal.the-variants as Refusal
 use Rattle.fir_length.specs.Kaiser.{betaOf, estimate}
 use Rattle.verdict.specs.declared.Length.{Length}
 use Rattle.verdict.specs.declared.Length.the-variants as Length
-use Rattle.fir_lowpass.specs.Lowpass.{lowpassOf, outcomeOf}
-use Rattle.fir_lowpass.specs.LowpassLaws.{never, is-design, prepares-as, prepares-refusal}
-use Rattle.fir_lowpass.specs.Cached.{preparedOf, PreparesLowpass}
+use Rattle.fir_lowpass.specs.Lowpass.{wherePassed, lowpassOf, outcomeOf}
+use Rattle.fir_lowpass.specs.LowpassLaws.{never, prepares-as}
+use Rattle.fir_lowpass.specs.Cached.{PreparesLowpass}
 use Rattle.fir_sinc.specs.declared.window.Window.the-variants.{Kaiser}
 use Rattle.fir_lowpass.specs.declared.lowpass.Lowpass.{Lowpass}
 use Rattle.fir_lowpass.specs.declared.lowpass.Designed.{Designed}
 use Rattle.fir_lowpass.specs.declared.lowpass.Designed.the-variants as Designed
-use Rattle.fir_lowpass.specs.declared.lowpass.Prepared.{Prepared}
-use Rattle.fir_channelizer.specs.Channelizer.{channelsTaken, branchTaken, edgesOf, tapsIn, channelizerTapsOf, lowpassIn, channelizerLowpassOf, fittedOf}
+use Rattle.fir_channelizer.specs.Channelizer.{channelsTaken, branchTaken, edgesOf, tapsIn, channelizerTapsOf, channelizerLowpassOf, fittedOf}
 use Rattle.verdict.specs.declared.Verdict.{Verdict}
 use Rattle.verdict.specs.declared.Verdict.the-variants as Verdict
 use Rattle.verdict.specs.Counted.{Counted, where-equal, fitted}
@@ -87,7 +86,7 @@ prototypeOf m l passband stopband a = lowpassOf ((passband ⊕ stopband) ⊘ (wh
 
 module _ (m l : ℕ) (passband stopband a : Float) where
   module _ (b : channelsTaken m ≡ true) where
-    pub by-edges : branchTaken l ≡ true → channelizerLowpassOf m l passband stopband a ≡ lowpassIn (edgesOf passband stopband a) (prototypeOf m l passband stopband a)
+    pub by-edges : branchTaken l ≡ true → channelizerLowpassOf m l passband stopband a ≡ wherePassed (edgesOf passband stopband a) (prototypeOf m l passband stopband a)
     unfolding channelizerLowpassOf
     by-edges c = rw (b, c)
 
@@ -121,22 +120,18 @@ module _ (n m : ℕ) (h : 4 ≤ m) where
       let k = mul-le-mul-left (n / m) h in
       omega arith
 
--- ---- a refusal, as an answer
-pub refuses : (d : Designed) (r : Prepared) (rs : List Float) (why : Refusal) → r ≡ preparedOf (Designed.Refused why) → d ≡ Designed.Refused why → PreparesLowpass d r rs
-refuses d r rs why e h = subst (λ (z : Prepared). PreparesLowpass d z rs) (sym e) (prepares-refusal d why rs h)
-
 -- ---- for a buffer of len elements
-pub fits-as : {d : Designed} {r : Prepared} {rs : List Float} {l : Lowpass} {len : ℕ} → r .designed ≡ Designed.Ready l → l .n ≡ len → PreparesLowpass d r rs → PreparesLowpass (fittedOf d len) r rs
+pub fits-as : {d r : Designed} {rs : List Float} {l : Lowpass} {len : ℕ} → r ≡ Designed.Ready l → l .n ≡ len → PreparesLowpass d r rs → PreparesLowpass (fittedOf d len) (Designed.Ready l) rs
 fits-as {d} {r} {rs} {l} {len} e h f =
-    let g : d ≡ Designed.Ready l = sym (is-design f) ∙ e in
-    prepares-as (g ∙ sym (ap (λ (z : Designed). fittedOf z len) g ∙ rw (eq-eqb (l .n) len h))) f
+    let g : d ≡ Designed.Ready l = sym (f .is) ∙ e in
+    subst (λ (z : Designed). PreparesLowpass (fittedOf d len) z rs) e (prepares-as (g ∙ sym (ap (λ (z : Designed). fittedOf z len) g ∙ rw (eq-eqb (l .n) len h))) f)
 
 -- ---- what an accepted ticket tells
 pub accepted : (m l : ℕ) (passband stopband a : Float) (d : Lowpass) → channelizerLowpassOf m l passband stopband a ≡ Designed.Ready d → lowpassOf ((passband ⊕ stopband) ⊘ (whole 2 ⊗ whole m)) (whole 1) (Kaiser (betaOf a)) (m * l) ≡ Designed.Ready d
 unfolding channelizerLowpassOf
 accepted m l passband stopband a d e = go (channelsTaken m) (branchTaken l) (edgesOf passband stopband a) (prototypeOf m l passband stopband a) e
   where
-    go : (b c : Bool) (k : Verdict) (p : Designed) → cond b (cond c (lowpassIn k p) (Designed.Refused (Refusal.Plain badCount))) (Designed.Refused (Refusal.Plain badCount)) ≡ Designed.Ready d → p ≡ Designed.Ready d
+    go : (b c : Bool) (k : Verdict) (p : Designed) → cond b (cond c (wherePassed k p) (Designed.Refused (Refusal.Plain badCount))) (Designed.Refused (Refusal.Plain badCount)) ≡ Designed.Ready d → p ≡ Designed.Ready d
     go true true Verdict.Done p e = e
     go true true (Verdict.Refused why) p e = absurd (never why d e)
     go true false k p e = absurd (never (Refusal.Plain badCount) d e)

@@ -1,6 +1,5 @@
 // The prototype filter of a channelizer: how many taps its band edges need, and the low-pass itself.
 use fir_lowpass::lowpass::Designed;
-use fir_lowpass::lowpass::Prepared;
 use fir_sinc::window::Window;
 use verdict::BAD_ATTENUATION;
 use verdict::BAD_COUNT;
@@ -11,7 +10,7 @@ use verdict::Refusal;
 use verdict::Verdict;
 ghost use mathlib.Core.Path.{_≡_};
 ghost use lib.ListN.{length};
-ghost use Rattle.fir_lowpass.specs.Cached.{preparedOf, PreparesLowpass};
+ghost use Rattle.fir_lowpass.specs.Cached.{PreparesLowpass};
 ghost use Rattle.fir_channelizer.specs.Channelizer.{channelsTaken, branchTaken, stopTaken, attenuationTaken, edgesOf, countTaken, channelizerTapsOf, branchOf, channelizerLowpassOf, fittedOf};
 
 // Whether a channelizer has so many channels: a power of two from 4 to 256.
@@ -121,19 +120,8 @@ pub fn channelizer_taps_per_branch(
     }
 }
 
-// A refusal in place of a design.
-fn refused(why: Refusal) -> Prepared
-    ensures { λ r. ⌜ r ≡ preparedOf (Designed.Refused why) ⌝ }
-{
-    Prepared {
-        designed: Designed::Refused(why),
-        i0: 1.0,
-    }
-}
-
-// The prototype, channels · branch taps, with the series at its beta: the cutoff lies half way between the edges.
-// Refused, in this order: 6 the channels; 6 a branch that isn't 4 to 32 taps; 2, 2, 4 as the edges; then as a low-pass
-// at rate 1.
+// The prototype, channels · branch taps: the cutoff lies half way between the edges. Refused, in this order: 6 the
+// channels; 6 a branch that isn't 4 to 32 taps; 2, 2, 4 as the edges; then as a low-pass at rate 1.
 // The first raw taps are left in `raws`, as many as it has places.
 pub fn prepare(
     channels: u64,
@@ -142,14 +130,14 @@ pub fn prepare(
     stopband: f64,
     attenuation: f64,
     raws: &mut [f64],
-) -> Prepared
+) -> Designed
     ensures { λ r. ⌜ PreparesLowpass (channelizerLowpassOf channels branch passband stopband attenuation) r (now (raws .exit)) ⌝ }
 {
     if !takes_channels(channels) {
-        return refused(Refusal::Plain(BAD_COUNT));
+        return Designed::Refused(Refusal::Plain(BAD_COUNT));
     }
     if !takes_branch(branch) {
-        return refused(Refusal::Plain(BAD_COUNT));
+        return Designed::Refused(Refusal::Plain(BAD_COUNT));
     }
     let checked = check_edges(passband, stopband, attenuation);
     match checked {
@@ -164,7 +152,7 @@ pub fn prepare(
                 &mut *raws,
             )
         }
-        Verdict::Refused(why) => refused(why),
+        Verdict::Refused(why) => Designed::Refused(why),
     }
 }
 
@@ -179,8 +167,7 @@ pub fn channelizer_lowpass(
     ensures { λ r. ⌜ r ≡ channelizerLowpassOf channels branch passband stopband attenuation ⌝ }
 {
     let mut none = [0.0f64; 1];
-    let p = prepare(channels, branch, passband, stopband, attenuation, &mut none);
-    p.designed
+    prepare(channels, branch, passband, stopband, attenuation, &mut none)
 }
 
 // The design for a buffer of `len` elements: refused as `prepare`, and last 8 where the taps are not `len`.
@@ -192,10 +179,10 @@ pub fn fitted(
     attenuation: f64,
     len: u64,
     raws: &mut [f64],
-) -> Prepared
+) -> Designed
     ensures { λ r. ⌜ PreparesLowpass (fittedOf (channelizerLowpassOf channels branch passband stopband attenuation) len) r (now (raws .exit)) ⌝ }
 {
-    let p = prepare(
+    let designed = prepare(
         channels,
         branch,
         passband,
@@ -203,16 +190,15 @@ pub fn fitted(
         attenuation,
         &mut *raws,
     );
-    let designed = p.designed;
     match designed {
         Designed::Ready(lp) => {
             let n = lp.n;
             if n == len {
-                p
+                Designed::Ready(lp)
             } else {
-                refused(Refusal::Length(n, len))
+                Designed::Refused(Refusal::Length(n, len))
             }
         }
-        Designed::Refused(why) => refused(why),
+        Designed::Refused(why) => Designed::Refused(why),
     }
 }

@@ -13,7 +13,6 @@ use Rattle.verdict.specs.Numbers.{badCount, badSum}
 use Rattle.verdict.specs.declared.Refusal.the-variants.{Plain}
 use Rattle.verdict.specs.Outcome.{Outcome}
 use Rattle.verdict.specs.Outcome as Outcome
-use Rattle.fir_sinc.specs.Windows.{normOf}
 use Rattle.fir_lowpass.specs.Lowpass as Lowpass
 use Rattle.fir_lowpass.specs.Cached.{Caches}
 use Rattle.fir_sinc.specs.declared.window.Window.the-variants.{Kaiser}
@@ -23,7 +22,6 @@ use Rattle.fir_lowpass.specs.declared.lowpass.Designed.the-variants as Designed
 use Rattle.fir_halfband.specs.declared.HalfbandDesign.{HalfbandDesign}
 use Rattle.fir_halfband.specs.declared.HalfbandDesigned.{HalfbandDesigned}
 use Rattle.fir_halfband.specs.declared.HalfbandDesigned.the-variants.{Ready, Refused}
-use Rattle.fir_halfband.specs.declared.HalfbandPrepared.{HalfbandPrepared}
 
 unfoldable pub lengthTaken : ℕ → Bool
 lengthTaken n = leb 3 n && eqb (n % 4) 3
@@ -44,14 +42,10 @@ abbrev pub quarterOf : Float → ℕ → Designed
 quarterOf beta n = Lowpass.lowpassOf (fraction 1 4) (whole 1) (Kaiser beta) n
 
 -- ---- one tap at a time
--- h[k] of n taps, i0 being the series at the low-pass's beta
-unfoldable pub unscaledWith : Lowpass → Float → ℕ → ℕ → Float
-unfolding vanishes
-unscaledWith l i0 n k = cond (vanishes n k) (whole 0) (Lowpass.tapWith l i0 (min k (n - 1 - k)))
-
+-- h[k] of n taps
 unfoldable pub unscaled : Lowpass → ℕ → ℕ → Float
-unfolding unscaledWith
-unscaled l n k = unscaledWith l (normOf (l .window)) n k
+unfolding vanishes
+unscaled l n k = cond (vanishes n k) (whole 0) (Lowpass.tapOf l (min k (n - 1 - k)))
 
 -- the last divisor: the sum of the h[k] by rising index
 unfoldable pub divisorOf : Lowpass → ℕ → Float
@@ -68,24 +62,14 @@ unfolding lengthTaken
 halfbandOf beta n = cond (lengthTaken n) (halfbandIn n (quarterOf beta n)) (Refused (Plain badCount))
 
 -- tap k of a design; 0 past the last one
-unfoldable pub tapWith : HalfbandDesign → Float → ℕ → Float
-unfolding unscaledWith
-tapWith d i0 k = cond (ltb k (d .n)) (unscaledWith (d .lp) i0 (d .n) k ⊘ d .sum) (whole 0)
-
 unfoldable pub tapOf : HalfbandDesign → ℕ → Float
-unfolding tapWith
-tapOf d k = tapWith d (normOf (d .lp .window)) k
+unfolding unscaled
+tapOf d k = cond (ltb k (d .n)) (unscaled (d .lp) (d .n) k ⊘ d .sum) (whole 0)
 
--- a design with the series at its beta, or a refusal with 1 in its place
-abbrev pub preparedOf : HalfbandDesigned → HalfbandPrepared
-preparedOf (Ready h) = record { designed = Ready h; i0 = normOf (h .lp .window) }
-preparedOf (Refused why) = record { designed = Refused why; i0 = whole 1 }
-
--- an answer that is what comes of the design d, and, where there is one, a list that keeps the low-pass's first raw
--- taps
-pub record PreparesHalfband (d : HalfbandDesigned) (r : HalfbandPrepared) (rs : List Float) : Type 0 where
-  pub answer : r ≡ preparedOf d
-  pub raws : (h : HalfbandDesign) → r .designed ≡ Ready h → Caches (h .lp) (r .i0) rs
+-- an answer that is the design d, and, where there is one, a list that keeps the low-pass's first raw taps
+pub record PreparesHalfband (d r : HalfbandDesigned) (rs : List Float) : Type 0 where
+  pub is : r ≡ d
+  pub raws : (h : HalfbandDesign) → r ≡ Ready h → Caches (h .lp) rs
 
 -- what comes of a ticket
 abbrev pub outcomeOf : HalfbandDesigned → Outcome

@@ -11,23 +11,21 @@ use Rattle.laws.specs.Binary64.{_⊘_}
 use Rattle.verdict.specs.Numbers.{badCount, badSum}
 use Rattle.verdict.specs.declared.Refusal.{Refusal}
 use Rattle.verdict.specs.declared.Refusal.the-variants.{Plain}
-use Rattle.fir_sinc.specs.Windows.{normOf}
 use Rattle.fir_lowpass.specs.Lowpass.{usable}
 use Rattle.fir_lowpass.specs.Cached.{Caches}
 use Rattle.fir_lowpass.specs.declared.lowpass.Lowpass.{Lowpass}
 use Rattle.fir_lowpass.specs.declared.lowpass.Designed.{Designed}
 use Rattle.fir_lowpass.specs.declared.lowpass.Designed.the-variants as Designed
-use Rattle.fir_halfband.specs.Halfband.{lengthTaken, quarterOf, unscaled, divisorOf, halfbandIn, halfbandOf, tapOf, preparedOf, PreparesHalfband, outcomeOf}
+use Rattle.fir_halfband.specs.Halfband.{lengthTaken, quarterOf, unscaled, divisorOf, halfbandIn, halfbandOf, tapOf, PreparesHalfband, outcomeOf}
 use Rattle.fir_halfband.specs.declared.HalfbandDesign.{HalfbandDesign}
 use Rattle.fir_halfband.specs.declared.HalfbandDesigned.{HalfbandDesigned}
 use Rattle.fir_halfband.specs.declared.HalfbandDesigned.the-variants.{Ready, Refused}
-use Rattle.fir_halfband.specs.declared.HalfbandPrepared.{HalfbandPrepared}
 use Rattle.laws.specs.Cases.{either-way}
 use Rattle.verdict.specs.Counted.{Counted}
 
 -- a tap of a design, below its length
 pub tap-is : (d : HalfbandDesign) (k : ℕ) → k < d .n → tapOf d k ≡ unscaled (d .lp) (d .n) k ⊘ d .sum
-unfolding tapOf unscaled
+unfolding tapOf
 tap-is d k h = rw (lt-ltb k (d .n) h)
 
 -- the design that comes of a low-pass
@@ -62,32 +60,17 @@ module _ (beta : Float) (n : ℕ) where
   no-length a = rw a
 
   -- a refusal, as an answer
-  pub refuses : (r : HalfbandPrepared) (rs : List Float) (why : Refusal) → r ≡ preparedOf (Refused why) → halfbandOf beta n ≡ Refused why → PreparesHalfband (halfbandOf beta n) r rs
-  refuses r rs why e h = record { answer = e ∙ ap preparedOf (sym h); raws = λ d g. absurd (never why d (sym (ap (λ (z : HalfbandPrepared). z .designed) e) ∙ g)) }
+  pub refuses : (why : Refusal) (rs : List Float) → halfbandOf beta n ≡ Refused why → PreparesHalfband (halfbandOf beta n) (Refused why) rs
+  refuses why rs h = record { is = sym h; raws = λ d g. absurd (never why d g) }
 
   -- a design, as an answer
-  abbrev prepared : Lowpass → Float → Float → HalfbandPrepared
-  prepared l s i0 = record { designed = Ready (record { lp = l; n = n; sum = s }); i0 = i0 }
-
-  pub accepts : (l : Lowpass) (s i0 : Float) (rs : List Float) → s ≡ divisorOf l n → i0 ≡ normOf (l .window) → Caches l i0 rs → halfbandOf beta n ≡ Ready (halved l n)
-      → PreparesHalfband (halfbandOf beta n) (record { designed = Ready (record { lp = l; n = n; sum = s }); i0 = i0 }) rs
-  accepts l s i0 rs e g k h =
+  pub accepts : (l : Lowpass) (s : Float) (rs : List Float) → s ≡ divisorOf l n → Caches l rs → halfbandOf beta n ≡ Ready (halved l n) → PreparesHalfband (halfbandOf beta n) (Ready (record { lp = l; n = n; sum = s })) rs
+  accepts l s rs e k h =
       let r : HalfbandDesign = record { lp = l; n = n; sum = s } in
       record {
-        answer = ap (λ (z : Float). prepared l z i0) e ∙ ap (λ (z : Float). prepared l (divisorOf l n) z) g ∙ ap preparedOf (sym h);
-        raws = λ d q. subst (λ (z : HalfbandDesign). Caches (z .lp) i0 rs) (same-record r d q) k;
+        is = ap (λ (z : Float). Ready (record { lp = l; n = n; sum = z })) e ∙ sym h;
+        raws = λ d q. subst (λ (z : HalfbandDesign). Caches (z .lp) rs) (same-record r d q) k;
       }
-
--- ---- what an answer tells: the design, and where it is one the series at its beta
-designed-of : (d : HalfbandDesigned) → preparedOf d .designed ≡ d
-designed-of (Ready h) = refl
-designed-of (Refused why) = refl
-
-pub is-design : {d : HalfbandDesigned} {r : HalfbandPrepared} {rs : List Float} → PreparesHalfband d r rs → r .designed ≡ d
-is-design {d} p = ap (λ (z : HalfbandPrepared). z .designed) (p .answer) ∙ designed-of d
-
-pub has-series : {d : HalfbandDesigned} {r : HalfbandPrepared} {rs : List Float} → PreparesHalfband d r rs → (h : HalfbandDesign) → r .designed ≡ Ready h → r .i0 ≡ normOf (h .lp .window)
-has-series p h g = ap (λ (z : HalfbandPrepared). z .i0) (p .answer) ∙ ap (λ (z : HalfbandDesigned). preparedOf z .i0) (sym (is-design p) ∙ g)
 
 -- ---- what an accepted ticket tells
 pub record AcceptedHalfband (beta : Float) (n : ℕ) (d : HalfbandDesign) : Type 0 where

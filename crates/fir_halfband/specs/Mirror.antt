@@ -11,10 +11,10 @@ use lib.Ieee.{Float, nan, inf, fin, binary64, up, down, unlike, round, ofInt, di
 use lib.Ieee.Fits.{up-pos}
 use lib.Ieee.Scale.{round-same}
 use Rattle.laws.specs.Binary64.{_⊘_, whole}
-use Rattle.fir_lowpass.specs.Lowpass.{usable, tapWith}
+use Rattle.fir_lowpass.specs.Lowpass as Lowpass
+use Rattle.fir_lowpass.specs.Lowpass.{usable}
 use Rattle.fir_lowpass.specs.declared.lowpass.Lowpass.{Lowpass}
-use Rattle.fir_sinc.specs.Windows.{normOf}
-use Rattle.fir_halfband.specs.Halfband.{distance, vanishes, unscaledWith, unscaled, divisorOf, halfbandOf, tapOf}
+use Rattle.fir_halfband.specs.Halfband.{distance, vanishes, unscaled, divisorOf, halfbandOf, tapOf}
 use Rattle.fir_halfband.specs.HalfbandLaws.{tap-is, halved, accepted}
 use Rattle.fir_halfband.specs.Distance.{taken-odd, mirror-lesser, mirror-distance, vanishes-alike, vanishes-at}
 use Rattle.fir_halfband.specs.declared.HalfbandDesign.{HalfbandDesign}
@@ -28,13 +28,13 @@ IsZero (fin s m e) = m ≡ 0
 
 -- ---- before the last division
 unscaled-mirror : (l : Lowpass) (n k : ℕ) → n % 2 ≡ 1 → k < n → unscaled l n k ≡ unscaled l n (n - 1 - k)
-unfolding unscaled unscaledWith
+unfolding unscaled
 unscaled-mirror l n k o h =
-    ap (λ (v : Bool). cond v (whole 0) (tapWith l (normOf (l .window)) (min k (n - 1 - k)))) (sym (vanishes-alike n (n - 1 - k) k (mirror-distance n k o h)))
-    ∙ ap (λ (j : ℕ). cond (vanishes n (n - 1 - k)) (whole 0) (tapWith l (normOf (l .window)) j)) (sym (mirror-lesser n k h))
+    ap (λ (v : Bool). cond v (whole 0) (Lowpass.tapOf l (min k (n - 1 - k)))) (sym (vanishes-alike n (n - 1 - k) k (mirror-distance n k o h)))
+    ∙ ap (λ (j : ℕ). cond (vanishes n (n - 1 - k)) (whole 0) (Lowpass.tapOf l j)) (sym (mirror-lesser n k h))
 
 unscaled-zero : (l : Lowpass) (n k : ℕ) → distance n k % 2 ≡ 0 → (distance n k ≡ 0 → ⊥) → unscaled l n k ≡ whole 0
-unfolding unscaled unscaledWith
+unfolding unscaled
 unscaled-zero l n k e h = rw (vanishes-at n k e h)
 
 -- ---- 0 over a sum that taps can be divided by

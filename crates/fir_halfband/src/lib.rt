@@ -12,7 +12,7 @@ ghost use Prim.Native.Nat.{_<_};
 ghost use lib.Ieee.{binary64};
 ghost use Rattle.laws.specs.Sums.{sumTo};
 ghost use Rattle.fir_lowpass.specs.Cached.{Caches};
-ghost use Rattle.fir_halfband.specs.Halfband.{lengthTaken, vanishes, unscaledWith, halfbandOf, tapWith, tapOf, preparedOf, PreparesHalfband};
+ghost use Rattle.fir_halfband.specs.Halfband.{lengthTaken, vanishes, unscaled, halfbandOf, tapOf, PreparesHalfband};
 
 // A design: the low-pass that it is made from, how many taps, and the sum that they are divided by last.
 pub struct HalfbandDesign {
@@ -25,12 +25,6 @@ pub struct HalfbandDesign {
 pub enum HalfbandDesigned {
     Ready(HalfbandDesign),
     Refused(Refusal),
-}
-
-// A design with the series at its beta, which each tap needs.
-pub struct HalfbandPrepared {
-    pub designed: HalfbandDesigned,
-    pub i0: f64,
 }
 
 // Whether a half-band has n taps: n mod 4 = 3.
@@ -52,81 +46,66 @@ fn is_zero_at(n: u64, k: u64) -> bool
 
 // Tap k of n before the last division: zero, or the tap of the low-pass at k or at its mirror image, whichever comes
 // first. `raws` keeps the first raw taps of the low-pass.
-fn unscaled(lp: Lowpass, i0: f64, raws: &[f64], n: u64, k: u64) -> f64
+fn unscaled_tap(lp: Lowpass, raws: &[f64], n: u64, k: u64) -> f64
     requires { ⌜ k < n ⌝ }
-    ensures { λ r. ⌜ (Caches lp i0 (now (raws .entry)) → r ≡ unscaledWith lp i0 n k) ⌝ }
+    ensures { λ r. ⌜ (Caches lp (now (raws .entry)) → r ≡ unscaled lp n k) ⌝ }
 {
     if is_zero_at(n, k) {
         return 0.0;
     }
     let across = n - 1 - k;
     let first = if k < across { k } else { across };
-    fir_lowpass::lowpass::cached_tap(lp, i0, raws, first)
+    fir_lowpass::lowpass::cached_tap(lp, raws, first)
 }
 
 // The sum of the taps before the last division, by rising index from +0.
-fn total(lp: Lowpass, i0: f64, raws: &[f64], n: u64) -> f64
-    ensures { λ r. ⌜ (Caches lp i0 (now (raws .entry)) → r ≡ sumTo binary64 (unscaledWith lp i0 n) n) ⌝ }
+fn total(lp: Lowpass, raws: &[f64], n: u64) -> f64
+    ensures { λ r. ⌜ (Caches lp (now (raws .entry)) → r ≡ sumTo binary64 (unscaled lp n) n) ⌝ }
 {
     let mut sum = 0.0;
     let mut k = 0u64;
     while k < n {
-        sum = sum + unscaled(lp, i0, raws, n, k);
+        sum = sum + unscaled_tap(lp, raws, n, k);
         k += 1;
     }
     sum
 }
 
-// A refusal in place of a design.
-fn refused(why: Refusal) -> HalfbandPrepared
-    ensures { λ r. ⌜ r ≡ preparedOf (HalfbandDesigned.Refused why) ⌝ }
-{
-    HalfbandPrepared {
-        designed: HalfbandDesigned::Refused(why),
-        i0: 1.0,
-    }
-}
-
-// The design of a half-band of n taps with Kaiser's window, with the series at beta. Refused, in this order: 6 where n
-// isn't 3 mod 4; as a low-pass of n taps with the cutoff at a quarter of the rate: 6, 4, 10; 10 where the sum of the
-// taps is 0 or not finite.
+// The design of a half-band of n taps with Kaiser's window. Refused, in this order: 6 where n isn't 3 mod 4; as a
+// low-pass of n taps with the cutoff at a quarter of the rate: 6, 4, 10; 10 where the sum of the taps is 0 or not
+// finite.
 // The first raw taps are left in `raws`, as many as it has places.
-pub fn prepare(beta: f64, n: u64, raws: &mut [f64]) -> HalfbandPrepared
+pub fn prepare(beta: f64, n: u64, raws: &mut [f64]) -> HalfbandDesigned
     ensures { λ r. ⌜ PreparesHalfband (halfbandOf beta n) r (now (raws .exit)) ⌝ }
 {
     if !takes_length(n) {
-        return refused(Refusal::Plain(BAD_COUNT));
+        return HalfbandDesigned::Refused(Refusal::Plain(BAD_COUNT));
     }
-    let p = fir_lowpass::lowpass::prepare(0.25, 1.0, Window::Kaiser(beta), n, &mut *raws);
-    let designed = p.designed;
+    let designed = fir_lowpass::lowpass::prepare(0.25, 1.0, Window::Kaiser(beta), n, &mut *raws);
     match designed {
         Designed::Ready(lp) => {
-            let sum = total(lp, p.i0, &*raws, n);
+            let sum = total(lp, &*raws, n);
             if !is_usable(sum) {
-                return refused(Refusal::Plain(BAD_SUM));
+                return HalfbandDesigned::Refused(Refusal::Plain(BAD_SUM));
             }
-            HalfbandPrepared {
-                designed: HalfbandDesigned::Ready(HalfbandDesign {
-                    lp: lp,
-                    n: n,
-                    sum: sum,
-                }),
-                i0: p.i0,
-            }
+            HalfbandDesigned::Ready(HalfbandDesign {
+                lp: lp,
+                n: n,
+                sum: sum,
+            })
         }
-        Designed::Refused(why) => refused(why),
+        Designed::Refused(why) => HalfbandDesigned::Refused(why),
     }
 }
 
-// Tap k of a design, i0 being the series at its beta and `raws` keeping the first raw taps of its low-pass; 0 past the
-// last tap.
-pub fn cached_tap(d: HalfbandDesign, i0: f64, raws: &[f64], k: u64) -> f64
-    ensures { λ r. ⌜ (Caches (d .lp) i0 (now (raws .entry)) → r ≡ tapWith d i0 k) ⌝ }
+// Tap k of a design, `raws` keeping the first raw taps of its low-pass; 0 past the last tap.
+pub fn cached_tap(d: HalfbandDesign, raws: &[f64], k: u64) -> f64
+    ensures { λ r. ⌜ (Caches (d .lp) (now (raws .entry)) → r ≡ tapOf d k) ⌝ }
 {
     let n = d.n;
     if k < n {
         let lp = d.lp;
-        unscaled(lp, i0, raws, n, k) / d.sum
+        unscaled_tap(lp, raws, n, k) / d.sum
     } else {
         0.0
     }
@@ -138,8 +117,7 @@ impl HalfbandDesign {
         ensures { λ r. ⌜ r ≡ halfbandOf beta n ⌝ }
     {
         let mut none = [0.0f64; 0];
-        let p = prepare(beta, n, &mut none);
-        p.designed
+        prepare(beta, n, &mut none)
     }
 
     // How many taps.
@@ -154,8 +132,6 @@ impl HalfbandDesign {
         ensures { λ r. ⌜ r ≡ tapOf self k ⌝ }
     {
         let none = [0.0f64; 0];
-        let lp = self.lp;
-        let w = lp.window;
-        cached_tap(self, fir_sinc::window::norm(w), &none, k)
+        cached_tap(self, &none, k)
     }
 }

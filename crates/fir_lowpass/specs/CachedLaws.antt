@@ -6,10 +6,10 @@ use borrow.Author.Tests.{lt-ltb, le-ltb}
 use lib.ListN.{length, getD}
 use lib.Ieee.{Float, nan}
 use Rattle.laws.specs.Binary64.{_⊘_}
-use Rattle.fir_lowpass.specs.Lowpass.{tapWith}
+use Rattle.fir_lowpass.specs.Lowpass.{tapOf}
 use Rattle.fir_lowpass.specs.Cached.{Caches}
 use Rattle.fir_lowpass.specs.declared.lowpass.Lowpass.{Lowpass}
 
-pub cached-is : (l : Lowpass) (i0 : Float) (rs : List Float) (i : ℕ) → l .n ≤ 16777216 → i < l .n → i < length rs → Caches l i0 rs → getD rs i nan ⊘ l .sum ≡ tapWith l i0 i
-unfolding tapWith
-cached-is l i0 rs i h b m k = ap (λ (z : Float). z ⊘ l .sum) (k i b m) ∙ sym (rw (le-ltb 16777216 (l .n) h, lt-ltb i (l .n) b))
+pub cached-is : (l : Lowpass) (rs : List Float) (i : ℕ) → l .n ≤ 16777216 → i < l .n → i < length rs → Caches l rs → getD rs i nan ⊘ l .sum ≡ tapOf l i
+unfolding tapOf
+cached-is l rs i h b m k = ap (λ (z : Float). z ⊘ l .sum) (k i b m) ∙ sym (rw (le-ltb 16777216 (l .n) h, lt-ltb i (l .n) b))

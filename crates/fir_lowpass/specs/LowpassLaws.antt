@@ -9,7 +9,6 @@ use lib.Dec.{ltb, leb}
 use lib.ListN.{length}
 use lib.Ieee.{Float}
 use Rattle.laws.specs.Binary64.{_⊘_, whole}
-use Rattle.laws.specs.Filled.{tabulate}
 use Rattle.laws.specs.Tests.{both}
 use Rattle.math_numbers.specs.Numbers.{positive}
 use Rattle.verdict.specs.Numbers.{badRate, badFrequency, badAttenuation, badCount, badSum}
@@ -20,13 +19,12 @@ use Rattle.verdict.specs.OutcomeLaws as Outcome
 use Rattle.fir_sinc.specs.Windows.{normOf}
 use Rattle.fir_sinc.specs.Taps.{rawAt}
 use Rattle.fir_cache.specs.Cached.{CachesOf}
-use Rattle.fir_lowpass.specs.Lowpass.{divisorOf, inside, countTaken, betaTaken, usable, lowpassOf, tapWith, tapOf, tapsOf, outcomeOf}
-use Rattle.fir_lowpass.specs.Cached.{Caches, Normed, preparedOf, PreparesLowpass}
+use Rattle.fir_lowpass.specs.Lowpass.{divisorOf, inside, countTaken, betaTaken, usable, judgementOf, designOf, wherePassed, lowpassWith, lowpassOf, tapsOf, outcomeOf}
+use Rattle.fir_lowpass.specs.Cached.{Caches, PreparesLowpass}
 use Rattle.fir_sinc.specs.declared.window.Window.{Window}
 use Rattle.fir_lowpass.specs.declared.lowpass.Lowpass.{Lowpass}
 use Rattle.fir_lowpass.specs.declared.lowpass.Designed.{Designed}
 use Rattle.fir_lowpass.specs.declared.lowpass.Designed.the-variants.{Ready, Refused}
-use Rattle.fir_lowpass.specs.declared.lowpass.Prepared.{Prepared}
 use Rattle.verdict.specs.declared.Verdict.{Verdict}
 use Rattle.verdict.specs.declared.Verdict.the-variants as Verdict
 use Rattle.laws.specs.Cases.{either-way}
@@ -45,97 +43,128 @@ count-least n h = ltb-true 0 n (both (ltb 0 n) (leb n 16777216) h .0)
 pub never : (why : Refusal) (l : Lowpass) → Refused why ≡ Ready l → ⊥
 never why l g = let z : _≡_ {A = ℕ} 0 1 = cc in omega arith
 
+-- ---- what the tests of the numbers so far said
 module _ (cutoff rate : Float) (w : Window) (n : ℕ) where
-  -- what the tests so far said
   module _ (a : positive rate ≡ true) where
     module _ (b : inside (cutoff ⊘ rate) ≡ true) where
       module _ (c : countTaken n ≡ true) where
-        module _ (d : betaTaken w ≡ true) where
-          pub ready : usable (divisorOf (cutoff ⊘ rate) w n) ≡ true → lowpassOf cutoff rate w n ≡ Ready (record { n = n; fc = cutoff ⊘ rate; window = w; sum = divisorOf (cutoff ⊘ rate) w n })
-          unfolding lowpassOf
-          ready e = rw (a, b, c, d, e)
+        pub passes : betaTaken w ≡ true → judgementOf cutoff rate w n ≡ Verdict.Done
+        unfolding judgementOf
+        passes d = rw (a, b, c, d)
 
-          pub no-divisor : usable (divisorOf (cutoff ⊘ rate) w n) ≡ false → lowpassOf cutoff rate w n ≡ Refused (Plain badSum)
-          unfolding lowpassOf
-          no-divisor e = rw (a, b, c, d, e)
-
-        pub no-beta : betaTaken w ≡ false → lowpassOf cutoff rate w n ≡ Refused (Plain badAttenuation)
-        unfolding lowpassOf
+        pub no-beta : betaTaken w ≡ false → judgementOf cutoff rate w n ≡ Verdict.Refused (Plain badAttenuation)
+        unfolding judgementOf
         no-beta d = rw (a, b, c, d)
 
-      pub no-count : countTaken n ≡ false → lowpassOf cutoff rate w n ≡ Refused (Plain badCount)
-      unfolding lowpassOf
+      pub no-count : countTaken n ≡ false → judgementOf cutoff rate w n ≡ Verdict.Refused (Plain badCount)
+      unfolding judgementOf
       no-count c = rw (a, b, c)
 
-    pub no-cutoff : inside (cutoff ⊘ rate) ≡ false → lowpassOf cutoff rate w n ≡ Refused (Range badFrequency (whole 0) (rate ⊘ whole 2) cutoff)
-    unfolding lowpassOf
+    pub no-cutoff : inside (cutoff ⊘ rate) ≡ false → judgementOf cutoff rate w n ≡ Verdict.Refused (Range badFrequency (whole 0) (rate ⊘ whole 2) cutoff)
+    unfolding judgementOf
     no-cutoff b = rw (a, b)
 
-  pub no-rate : positive rate ≡ false → lowpassOf cutoff rate w n ≡ Refused (Plain badRate)
-  unfolding lowpassOf
+  pub no-rate : positive rate ≡ false → judgementOf cutoff rate w n ≡ Verdict.Refused (Plain badRate)
+  unfolding judgementOf
   no-rate a = rw a
 
-  -- a refusal, as an answer
-  pub refuses : (r : Prepared) (rs : List Float) (why : Refusal) → r ≡ preparedOf (Refused why) → lowpassOf cutoff rate w n ≡ Refused why → PreparesLowpass (lowpassOf cutoff rate w n) r rs
-  refuses r rs why e h = record { answer = e ∙ ap preparedOf (sym h); raws = λ l g. absurd (never why l (sym (ap (λ (z : Prepared). z .designed) e) ∙ g)) }
+-- numbers that pass
+pub record Passed (cutoff rate : Float) (w : Window) (n : ℕ) : Type 0 where
+  pub rated : positive rate ≡ true
+  pub inner : inside (cutoff ⊘ rate) ≡ true
+  pub counted : countTaken n ≡ true
+  pub shaped : betaTaken w ≡ true
 
-  -- a design, as an answer
-  same-record : (l m : Lowpass) → Ready l ≡ Ready m → l ≡ m
-  same-record l m e = cc
+pub passed : (cutoff rate : Float) (w : Window) (n : ℕ) → judgementOf cutoff rate w n ≡ Verdict.Done → Passed cutoff rate w n
+unfolding judgementOf
+passed cutoff rate w n e = go (positive rate) (inside (cutoff ⊘ rate)) (countTaken n) (betaTaken w) refl refl refl refl e
+  where
+    never-done : (why : Refusal) → Verdict.Refused why ≡ Verdict.Done → ⊥
+    never-done why g = let z : _≡_ {A = ℕ} 0 1 = cc in omega arith
 
-  abbrev prepared : Float → Float → Prepared
-  prepared s i0 = record { designed = Ready (record { n = n; fc = cutoff ⊘ rate; window = w; sum = s }); i0 = i0 }
+    go : (a b c d : Bool) → positive rate ≡ a → inside (cutoff ⊘ rate) ≡ b → countTaken n ≡ c → betaTaken w ≡ d
+        → cond a (cond b (cond c (cond d Verdict.Done (Verdict.Refused (Plain badAttenuation))) (Verdict.Refused (Plain badCount))) (Verdict.Refused (Range badFrequency (whole 0) (rate ⊘ whole 2) cutoff))) (Verdict.Refused (Plain badRate)) ≡ Verdict.Done
+        → Passed cutoff rate w n
+    go true true true true a b c d e = record { rated = a; inner = b; counted = c; shaped = d }
+    go true true true false a b c d e = absurd (never-done (Plain badAttenuation) e)
+    go true true false x a b c d e = absurd (never-done (Plain badCount) e)
+    go true false x y a b c d e = absurd (never-done (Range badFrequency (whole 0) (rate ⊘ whole 2) cutoff) e)
+    go false x y z a b c d e = absurd (never-done (Plain badRate) e)
 
-  pub accepts : (s i0 : Float) (rs : List Float) → s ≡ divisorOf (cutoff ⊘ rate) w n → i0 ≡ normOf w → CachesOf (rawAt (cutoff ⊘ rate) w i0 n) n rs → lowpassOf cutoff rate w n ≡ Ready (record { n = n; fc = cutoff ⊘ rate; window = w; sum = divisorOf (cutoff ⊘ rate) w n })
-      → PreparesLowpass (lowpassOf cutoff rate w n) (record { designed = Ready (record { n = n; fc = cutoff ⊘ rate; window = w; sum = s }); i0 = i0 }) rs
-  accepts s i0 rs e g k h =
-      let r : Lowpass = record { n = n; fc = cutoff ⊘ rate; window = w; sum = s } in
+-- ---- the design, from what the test of the sum said
+abbrev pub designed : Float → Window → Float → ℕ → Lowpass
+designed fc w i0 n = record { n = n; fc = fc; window = w; i0 = i0; sum = divisorOf fc w i0 n }
+
+same-record : (l m : Lowpass) → Ready l ≡ Ready m → l ≡ m
+same-record l m e = cc
+
+module _ (fc : Float) (w : Window) (i0 : Float) (n : ℕ) where
+  pub ready : usable (divisorOf fc w i0 n) ≡ true → designOf fc w i0 n ≡ Ready (designed fc w i0 n)
+  unfolding designOf
+  ready e = rw e
+
+  pub no-divisor : usable (divisorOf fc w i0 n) ≡ false → designOf fc w i0 n ≡ Refused (Plain badSum)
+  unfolding designOf
+  no-divisor e = rw e
+
+  -- as an answer
+  pub accepts : (s : Float) (rs : List Float) → s ≡ divisorOf fc w i0 n → CachesOf (rawAt fc w i0 n) n rs → usable (divisorOf fc w i0 n) ≡ true → PreparesLowpass (designOf fc w i0 n) (Ready (record { n = n; fc = fc; window = w; i0 = i0; sum = s })) rs
+  accepts s rs e k u =
+      let r : Lowpass = record { n = n; fc = fc; window = w; i0 = i0; sum = s } in
       record {
-        answer =
-            ap (λ (z : Float). prepared z i0) e
-            ∙ ap (λ (z : Float). prepared (divisorOf (cutoff ⊘ rate) w n) z) g
-            ∙ ap preparedOf (sym h);
-        raws = λ l q. subst (λ (z : Lowpass). Caches z i0 rs) (same-record r l q) k;
+        is = ap (λ (z : Float). Ready (record { n = n; fc = fc; window = w; i0 = i0; sum = z })) e ∙ sym (ready u);
+        raws = λ l q. subst (λ (z : Lowpass). Caches z rs) (same-record r l q) k;
       }
 
--- ---- what an answer tells: the design, and where it is one the series at its beta
-designed-of : (d : Designed) → preparedOf d .designed ≡ d
-designed-of (Ready l) = refl
-designed-of (Refused why) = refl
+-- ---- the low-pass, from what came of its numbers
+module _ (cutoff rate : Float) (w : Window) (i0 : Float) (n : ℕ) where
+  judged : (v : Verdict) → judgementOf cutoff rate w n ≡ v → lowpassWith cutoff rate w i0 n ≡ wherePassed v (designOf (cutoff ⊘ rate) w i0 n)
+  unfolding lowpassWith
+  judged v e = ap (λ (z : Verdict). wherePassed z (designOf (cutoff ⊘ rate) w i0 n)) e
 
-pub is-design : {d : Designed} {r : Prepared} {rs : List Float} → PreparesLowpass d r rs → r .designed ≡ d
-is-design {d} p = ap (λ (z : Prepared). z .designed) (p .answer) ∙ designed-of d
+  pub builds : judgementOf cutoff rate w n ≡ Verdict.Done → lowpassWith cutoff rate w i0 n ≡ designOf (cutoff ⊘ rate) w i0 n
+  builds e = judged Verdict.Done e
 
-pub has-series : {d : Designed} {r : Prepared} {rs : List Float} → PreparesLowpass d r rs → Normed r
-has-series p l g = ap (λ (z : Prepared). z .i0) (p .answer) ∙ ap (λ (z : Designed). preparedOf z .i0) (sym (is-design p) ∙ g)
+  pub refuses : (why : Refusal) → judgementOf cutoff rate w n ≡ Verdict.Refused why → lowpassWith cutoff rate w i0 n ≡ Refused why
+  refuses why e = judged (Verdict.Refused why) e
+
+-- ---- an answer for an equal design, and one that is a refusal
+pub prepares-as : {d e r : Designed} {rs : List Float} → d ≡ e → PreparesLowpass d r rs → PreparesLowpass e r rs
+prepares-as {d} {e} {r} {rs} p f = subst (λ (z : Designed). PreparesLowpass z r rs) p f
+
+pub prepares-refusal : (d : Designed) (why : Refusal) (rs : List Float) → d ≡ Refused why → PreparesLowpass d (Refused why) rs
+prepares-refusal d why rs e = record { is = sym e; raws = λ l g. absurd (never why l g) }
 
 -- ---- what an accepted ticket tells
+-- numbers that pass, and the design by them
+pub record AcceptedWith (cutoff rate : Float) (w : Window) (i0 : Float) (n : ℕ) (l : Lowpass) : Type 0 where
+  pub passes : Passed cutoff rate w n
+  pub is : l ≡ designed (cutoff ⊘ rate) w i0 n
+
+pub ready-with : (cutoff rate : Float) (w : Window) (i0 : Float) (n : ℕ) (l : Lowpass) → lowpassWith cutoff rate w i0 n ≡ Ready l → AcceptedWith cutoff rate w i0 n l
+unfolding lowpassWith designOf
+ready-with cutoff rate w i0 n l e = go (judgementOf cutoff rate w n) (usable (divisorOf (cutoff ⊘ rate) w i0 n)) refl e
+  where
+    go : (v : Verdict) (u : Bool) → judgementOf cutoff rate w n ≡ v → wherePassed v (cond u (Ready (designed (cutoff ⊘ rate) w i0 n)) (Refused (Plain badSum))) ≡ Ready l → AcceptedWith cutoff rate w i0 n l
+    go Verdict.Done true v e = record { passes = passed cutoff rate w n v; is = sym (same-record _ l e) }
+    go Verdict.Done false v e = absurd (never (Plain badSum) l e)
+    go (Verdict.Refused why) u v e = absurd (never why l e)
+
 pub record AcceptedLowpass (cutoff rate : Float) (w : Window) (n : ℕ) (l : Lowpass) : Type 0 where
   pub counted : countTaken n ≡ true
-  pub is : l ≡ record { n = n; fc = cutoff ⊘ rate; window = w; sum = divisorOf (cutoff ⊘ rate) w n }
+  pub is : l ≡ designed (cutoff ⊘ rate) w (normOf w) n
 
 pub ready-is : (cutoff rate : Float) (w : Window) (n : ℕ) (l : Lowpass) → lowpassOf cutoff rate w n ≡ Ready l → AcceptedLowpass cutoff rate w n l
 unfolding lowpassOf
-ready-is cutoff rate w n l e = go (positive rate) (inside (cutoff ⊘ rate)) (countTaken n) (betaTaken w) (usable (divisorOf (cutoff ⊘ rate) w n)) (λ h. h) e
-  where
-    r : Lowpass
-    r = record { n = n; fc = cutoff ⊘ rate; window = w; sum = divisorOf (cutoff ⊘ rate) w n }
-
-    go : (a b c d f : Bool) → (c ≡ true → countTaken n ≡ true)
-        → cond a (cond b (cond c (cond d (cond f (Ready r) (Refused (Plain badSum))) (Refused (Plain badAttenuation))) (Refused (Plain badCount))) (Refused (Range badFrequency (whole 0) (rate ⊘ whole 2) cutoff))) (Refused (Plain badRate)) ≡ Ready l
-        → AcceptedLowpass cutoff rate w n l
-    go true true true true true k e = record { counted = k refl; is = cc }
-    go true true true true false k e = absurd (never (Plain badSum) l e)
-    go true true true false f k e = absurd (never (Plain badAttenuation) l e)
-    go true true false d f k e = absurd (never (Plain badCount) l e)
-    go true false c d f k e = absurd (never (Range badFrequency (whole 0) (rate ⊘ whole 2) cutoff) l e)
-    go false b c d f k e = absurd (never (Plain badRate) l e)
+ready-is cutoff rate w n l e =
+    let a = ready-with cutoff rate w (normOf w) n l e in
+    record { counted = a .passes .counted; is = a .is }
 
 -- ---- a buffer
 module _ (g : Designed) (d : List Float) where
-  pub fills : (l : Lowpass) (i0 : Float) (after : List Float) → g ≡ Ready l → i0 ≡ normOf (l .window) → after ≡ tapsOf l i0 (length d) → Fills (outcomeOf g) d Verdict.Done after
-  unfolding tapsOf tapOf
-  fills l i0 after h k e = Outcome.fills (ap outcomeOf h) (e ∙ ap (λ (z : Float). tabulate (length d) (tapWith l z)) k)
+  pub fills : (l : Lowpass) (after : List Float) → g ≡ Ready l → after ≡ tapsOf l (length d) → Fills (outcomeOf g) d Verdict.Done after
+  unfolding tapsOf
+  fills l after h e = Outcome.fills (ap outcomeOf h) e
 
   pub leaves : (why : Refusal) → g ≡ Refused why → Fills (outcomeOf g) d (Verdict.Refused why) d
   leaves why h = Outcome.leaves why (ap outcomeOf h)
@@ -144,16 +173,15 @@ module _ (g : Designed) (d : List Float) where
 pub fills-as : {d e : Designed} {b a : List Float} {r : Verdict} → d ≡ e → Fills (outcomeOf d) b r a → Fills (outcomeOf e) b r a
 fills-as p f = Outcome.fills-as (ap outcomeOf p) f
 
-pub prepares-as : {d e : Designed} {r : Prepared} {rs : List Float} → d ≡ e → PreparesLowpass d r rs → PreparesLowpass e r rs
-prepares-as {d} {e} {r} {rs} p f = subst (λ (z : Designed). PreparesLowpass z r rs) p f
-
-pub prepares-refusal : (d : Designed) (why : Refusal) (rs : List Float) → d ≡ Refused why → PreparesLowpass d (preparedOf (Refused why)) rs
-prepares-refusal d why rs e = record { answer = ap preparedOf (sym e); raws = λ l g. absurd (never why l g) }
-
 -- ---- an accepted design has as many taps as it was asked for
+passed-count : (n : ℕ) (v : Verdict) (d : Designed) → Counted n (outcomeOf d) → Counted n (outcomeOf (wherePassed v d))
+passed-count n Verdict.Done d c = c
+passed-count n (Verdict.Refused why) d c = tt
+
+pub with-count : (cutoff rate : Float) (w : Window) (i0 : Float) (n : ℕ) → Counted n (outcomeOf (lowpassWith cutoff rate w i0 n))
+unfolding lowpassWith designOf
+with-count cutoff rate w i0 n = passed-count n (judgementOf cutoff rate w n) (designOf (cutoff ⊘ rate) w i0 n) (either-way (λ (d : Designed). Counted n (outcomeOf d)) (usable (divisorOf (cutoff ⊘ rate) w i0 n)) _ _ refl tt)
+
 pub lowpass-count : (cutoff rate : Float) (w : Window) (n : ℕ) → Counted n (outcomeOf (lowpassOf cutoff rate w n))
 unfolding lowpassOf
-lowpass-count cutoff rate w n =
-    let fc = cutoff ⊘ rate in
-    let counted : Designed → Type 0 = λ d. Counted n (outcomeOf d) in
-    either-way counted (positive rate) _ _ (either-way counted (inside fc) _ _ (either-way counted (countTaken n) _ _ (either-way counted (betaTaken w) _ _ (either-way counted (usable (divisorOf fc w n)) _ _ refl tt) tt) tt) tt) tt
+lowpass-count cutoff rate w n = with-count cutoff rate w (normOf w) n

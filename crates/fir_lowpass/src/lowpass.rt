@@ -10,15 +10,19 @@ use verdict::BAD_FREQUENCY;
 use verdict::BAD_RATE;
 use verdict::BAD_SUM;
 use verdict::Refusal;
+use verdict::Verdict;
 ghost use mathlib.Core.Path.{_≡_};
-ghost use Rattle.fir_lowpass.specs.Lowpass.{inside, countTaken, betaTaken, usable, lowpassOf, tapWith, tapOf};
-ghost use Rattle.fir_lowpass.specs.Cached.{Caches, preparedOf, PreparesLowpass};
+ghost use Prim.Native.Nat.{_≤_};
+ghost use Rattle.fir_lowpass.specs.Lowpass.{inside, countTaken, betaTaken, usable, judgementOf, designOf, lowpassWith, lowpassOf, tapOf};
+ghost use Rattle.fir_lowpass.specs.Cached.{Caches, PreparesLowpass};
 
-// A design: how many taps, the cutoff as a fraction of the rate, the window, and the sum that the taps are divided by.
+// A design: how many taps, the cutoff as a fraction of the rate, the window, the value that the window is divided by
+// (the series at beta, 1 where the window isn't Kaiser's), and the sum that the taps are divided by.
 pub struct Lowpass {
     pub n: u64,
     pub fc: f64,
     pub window: Window,
+    pub i0: f64,
     pub sum: f64,
 }
 
@@ -26,12 +30,6 @@ pub struct Lowpass {
 pub enum Designed {
     Ready(Lowpass),
     Refused(Refusal),
-}
-
-// A design with the series at its beta, which each tap needs.
-pub struct Prepared {
-    pub designed: Designed,
-    pub i0: f64,
 }
 
 // Whether a cutoff lies between 0 and half the rate.
@@ -67,71 +65,79 @@ pub fn is_usable(s: f64) -> bool
     math_numbers::is_finite(s) && s != 0.0
 }
 
-// A refusal in place of a design.
-fn refused(why: Refusal) -> Prepared
-    ensures { λ r. ⌜ r ≡ preparedOf (Designed.Refused why) ⌝ }
-{
-    Prepared {
-        designed: Designed::Refused(why),
-        i0: 1.0,
-    }
-}
-
-// The design of a low-pass, with the series at beta. Refused, in this order: 1 a rate that isn't finite and positive; 2
-// with 0, rate/2, cutoff where cutoff/rate isn't between 0 and 1/2; 6 no taps or more than 2^24; 4 a beta that isn't
-// finite and not negative; 10 a sum of the raw taps that is 0 or not finite.
-// The first raw taps are left in `raws`, as many as it has places.
-pub fn prepare(cutoff: f64, rate: f64, window: Window, n: u64, raws: &mut [f64]) -> Prepared
-    ensures { λ r. ⌜ PreparesLowpass (lowpassOf cutoff rate window n) r (now (raws .exit)) ⌝ }
+// The numbers of a ticket. Refused, in this order: 1 a rate that isn't finite and positive; 2 with 0, rate/2, cutoff
+// where cutoff/rate isn't between 0 and 1/2; 6 no taps or more than 2^24; 4 a beta that isn't finite and not negative.
+fn judge(cutoff: f64, rate: f64, window: Window, n: u64) -> Verdict
+    ensures { λ r. ⌜ r ≡ judgementOf cutoff rate window n ⌝ }
 {
     if !math_numbers::is_positive(rate) {
-        return refused(Refusal::Plain(BAD_RATE));
+        return Verdict::Refused(Refusal::Plain(BAD_RATE));
     }
-    let fc = cutoff / rate;
-    if !is_inside(fc) {
-        return refused(Refusal::Range(BAD_FREQUENCY, 0.0, rate / 2.0, cutoff));
+    if !is_inside(cutoff / rate) {
+        return Verdict::Refused(Refusal::Range(BAD_FREQUENCY, 0.0, rate / 2.0, cutoff));
     }
     if !takes_count(n) {
-        return refused(Refusal::Plain(BAD_COUNT));
+        return Verdict::Refused(Refusal::Plain(BAD_COUNT));
     }
     if !takes_beta(window) {
-        return refused(Refusal::Plain(BAD_ATTENUATION));
+        return Verdict::Refused(Refusal::Plain(BAD_ATTENUATION));
     }
-    let i0 = norm(window);
+    Verdict::Done
+}
+
+// The design whose numbers passed, its window divided by i0; 10 where the sum of the raw taps is 0 or not finite.
+fn build(fc: f64, window: Window, i0: f64, n: u64, raws: &mut [f64]) -> Designed
+    requires { ⌜ n ≤ 16777216 ⌝ }
+    ensures { λ r. ⌜ PreparesLowpass (designOf fc window i0 n) r (now (raws .exit)) ⌝ }
+{
     let sum = total(fc, window, i0, n, &mut *raws);
     if !is_usable(sum) {
-        return refused(Refusal::Plain(BAD_SUM));
+        return Designed::Refused(Refusal::Plain(BAD_SUM));
     }
-    Prepared {
-        designed: Designed::Ready(Lowpass {
-            n: n,
-            fc: fc,
-            window: window,
-            sum: sum,
-        }),
+    Designed::Ready(Lowpass {
+        n: n,
+        fc: fc,
+        window: window,
         i0: i0,
-    }
+        sum: sum,
+    })
 }
 
-// Tap i of a design, i0 being the series at its beta; 0 past the last tap, and for a record that no design gives.
-pub fn tap_with(lp: Lowpass, i0: f64, i: u64) -> f64
-    ensures { λ r. ⌜ r ≡ tapWith lp i0 i ⌝ }
+// The design of a low-pass. Refused, in this order: 1 a rate that isn't finite and positive; 2 with 0, rate/2, cutoff
+// where cutoff/rate isn't between 0 and 1/2; 6 no taps or more than 2^24; 4 a beta that isn't finite and not negative;
+// 10 a sum of the raw taps that is 0 or not finite.
+// The first raw taps are left in `raws`, as many as it has places.
+pub fn prepare(cutoff: f64, rate: f64, window: Window, n: u64, raws: &mut [f64]) -> Designed
+    ensures { λ r. ⌜ PreparesLowpass (lowpassOf cutoff rate window n) r (now (raws .exit)) ⌝ }
 {
-    let n = lp.n;
-    if n > TAP_LIMIT {
-        return 0.0;
-    }
-    if i < n {
-        let w = lp.window;
-        raw_tap(lp.fc, w, i0, n, i) / lp.sum
-    } else {
-        0.0
+    let verdict = judge(cutoff, rate, window, n);
+    match verdict {
+        Verdict::Done => build(cutoff / rate, window, norm(window), n, &mut *raws),
+        Verdict::Refused(why) => Designed::Refused(why),
     }
 }
 
-// The same where `raws` keeps the design's first raw taps, which are taken from there.
-pub fn cached_tap(lp: Lowpass, i0: f64, raws: &[f64], i: u64) -> f64
-    ensures { λ r. ⌜ (Caches lp i0 (now (raws .entry)) → r ≡ tapWith lp i0 i) ⌝ }
+// The same where i0, the value that the window is divided by, is at hand; refused as that.
+pub fn prepare_with(
+    cutoff: f64,
+    rate: f64,
+    window: Window,
+    i0: f64,
+    n: u64,
+    raws: &mut [f64],
+) -> Designed
+    ensures { λ r. ⌜ PreparesLowpass (lowpassWith cutoff rate window i0 n) r (now (raws .exit)) ⌝ }
+{
+    let verdict = judge(cutoff, rate, window, n);
+    match verdict {
+        Verdict::Done => build(cutoff / rate, window, i0, n, &mut *raws),
+        Verdict::Refused(why) => Designed::Refused(why),
+    }
+}
+
+// Tap i of a design where `raws` keeps its first raw taps, which are taken from there.
+pub fn cached_tap(lp: Lowpass, raws: &[f64], i: u64) -> f64
+    ensures { λ r. ⌜ (Caches lp (now (raws .entry)) → r ≡ tapOf lp i) ⌝ }
 {
     let n = lp.n;
     let k = i as usize;
@@ -142,7 +148,7 @@ pub fn cached_tap(lp: Lowpass, i0: f64, raws: &[f64], i: u64) -> f64
             }
         }
     }
-    tap_with(lp, i0, i)
+    lp.tap(i)
 }
 
 impl Lowpass {
@@ -151,8 +157,7 @@ impl Lowpass {
         ensures { λ r. ⌜ r ≡ lowpassOf cutoff rate window n ⌝ }
     {
         let mut none = [0.0f64; 1];
-        let p = prepare(cutoff, rate, window, n, &mut none);
-        p.designed
+        prepare(cutoff, rate, window, n, &mut none)
     }
 
     // How many taps.
@@ -162,11 +167,19 @@ impl Lowpass {
         self.n
     }
 
-    // Tap i, divided by the sum.
+    // Tap i, divided by the sum; 0 past the last tap, and for a record with more taps than a design has.
     pub fn tap(self, i: u64) -> f64
         ensures { λ r. ⌜ r ≡ tapOf self i ⌝ }
     {
-        let w = self.window;
-        tap_with(self, norm(w), i)
+        let n = self.n;
+        if n > TAP_LIMIT {
+            return 0.0;
+        }
+        if i < n {
+            let w = self.window;
+            raw_tap(self.fc, w, self.i0, n, i) / self.sum
+        } else {
+            0.0
+        }
     }
 }

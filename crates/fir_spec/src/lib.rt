@@ -3,7 +3,6 @@ use fir_length::order::Order;
 use fir_length::order::kaiserord;
 use fir_lowpass::lowpass::Designed;
 use fir_lowpass::lowpass::Lowpass;
-use fir_lowpass::lowpass::Prepared;
 use fir_lowpass::lowpass::prepare;
 use fir_sinc::window::Window;
 use verdict::BAD_FREQUENCY;
@@ -66,10 +65,10 @@ pub fn spec_order(spec: DesignSpec, rate: f64, cap: u64) -> Order
     capped(kaiserord(spec.attenuation, transition, rate), cap)
 }
 
-// The design for a buffer of `len` elements, with the series at beta: refused as `spec_order`, then 8 where the taps
-// are not `len`, then as a low-pass.
+// The design for a buffer of `len` elements: refused as `spec_order`, then 8 where the taps are not `len`, then as a
+// low-pass.
 // The first raw taps are left in `raws`, as many as it has places.
-pub fn spec_prepare(spec: DesignSpec, rate: f64, cap: u64, len: u64, raws: &mut [f64]) -> Prepared
+pub fn spec_prepare(spec: DesignSpec, rate: f64, cap: u64, len: u64, raws: &mut [f64]) -> Designed
     ensures { λ r. ⌜ PreparesLowpass (specDesignOf spec rate cap len) r (now (raws .exit)) ⌝ }
 {
     let order = spec_order(spec, rate, cap);
@@ -78,16 +77,10 @@ pub fn spec_prepare(spec: DesignSpec, rate: f64, cap: u64, len: u64, raws: &mut 
             if n == len {
                 prepare(spec.cutoff, rate, Window::Kaiser(beta), n, &mut *raws)
             } else {
-                Prepared {
-                    designed: Designed::Refused(Refusal::Length(n, len)),
-                    i0: 1.0,
-                }
+                Designed::Refused(Refusal::Length(n, len))
             }
         }
-        Order::Refused(why) => Prepared {
-            designed: Designed::Refused(why),
-            i0: 1.0,
-        },
+        Order::Refused(why) => Designed::Refused(why),
     }
 }
 

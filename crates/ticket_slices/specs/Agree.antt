@@ -22,7 +22,7 @@ use Rattle.verdict.specs.declared.Verdict.the-variants as Verdict
 use Rattle.fir_lowpass.specs.declared.lowpass.Lowpass.{Lowpass}
 use Rattle.fir_lowpass.specs.declared.lowpass.Designed.{Designed}
 use Rattle.fir_lowpass.specs.declared.lowpass.Designed.the-variants as Designed
-use Rattle.fir_halfband.specs.Halfband.{lengthTaken, quarterOf, unscaledWith, unscaled, divisorOf, halfbandIn, halfbandOf, tapOf, outcomeOf, cleared, mirrored, mirroredSum, tapsIn, halfbandTapsOf}
+use Rattle.fir_halfband.specs.Halfband.{lengthTaken, quarterOf, unscaled, divisorOf, halfbandIn, halfbandOf, tapOf, outcomeOf, cleared, mirrored, mirroredSum, tapsIn, halfbandTapsOf}
 use Rattle.fir_halfband.specs.HalfbandLaws.{tap-is, halved, accepted}
 use Rattle.fir_halfband.specs.Distance.{taken-odd, left-is-lesser, lesser-distance, vanishes-alike}
 use Rattle.fir_halfband.specs.declared.HalfbandDesign.{HalfbandDesign}
@@ -39,7 +39,7 @@ Agrees (Outcome.Refused why) (Outcome.Refused other) = why ≡ other
 -- ---- a low-pass of n taps, n being odd
 module _ (l : Lowpass) (o : l .n % 2 ≡ 1) where
   unscaled-mirrored : (k : ℕ) → k < l .n → unscaled l (l .n) k ≡ mirrored l k
-  unfolding unscaled unscaledWith Lowpass.tapOf
+  unfolding unscaled
   unscaled-mirrored k h =
       let j = min k (l .n - 1 - k) in
       ap (λ (v : Bool). cond v (whole 0) (Lowpass.tapOf l j)) (sym (vanishes-alike (l .n) j k (lesser-distance (l .n) k o h)))

@@ -1,7 +1,6 @@
 // A half-band into a buffer.
 use fir_halfband::HalfbandDesign;
 use fir_halfband::HalfbandDesigned;
-use fir_halfband::cached_tap;
 use verdict::Verdict;
 ghost use lib.ListN.{length};
 ghost use Rattle.verdict.specs.Outcome.{Fills};
@@ -16,12 +15,8 @@ pub fn halfband_taps(beta: f64, taps: &mut [f64]) -> Verdict
     let designed = HalfbandDesign::new(beta, n as u64);
     match designed {
         HalfbandDesigned::Ready(d) => {
-            let none = [0.0f64; 0];
-            let lp = d.lp;
-            let w = lp.window;
-            let i0 = fir_sinc::window::norm(w);
             for k in 0..n {
-                taps[k] = cached_tap(d, i0, &none, k as u64);
+                taps[k] = d.tap(k as u64);
             }
             Verdict::Done
         }

@@ -1,35 +1,31 @@
 // A low-pass into a buffer.
 use fir_lowpass::lowpass::Designed;
 use fir_lowpass::lowpass::Lowpass;
-use fir_lowpass::lowpass::Prepared;
 use fir_lowpass::lowpass::prepare;
-use fir_lowpass::lowpass::tap_with;
 use fir_sinc::window::Window;
 use verdict::Verdict;
 ghost use mathlib.Core.Path.{_≡_};
 ghost use lib.ListN.{length};
 ghost use Rattle.verdict.specs.Outcome.{Fills};
 ghost use Rattle.fir_lowpass.specs.Lowpass.{lowpassOf, tapsOf, outcomeOf};
-ghost use Rattle.fir_lowpass.specs.Cached.{Normed};
 
 // Fills the buffer with a design's taps, as many as it has elements.
-fn fill(lp: Lowpass, i0: f64, taps: &mut [f64])
-    ensures { λ _. ⌜ now (taps .exit) ≡ tapsOf lp i0 (length (now (taps .entry))) ⌝ }
+fn fill(lp: Lowpass, taps: &mut [f64])
+    ensures { λ _. ⌜ now (taps .exit) ≡ tapsOf lp (length (now (taps .entry))) ⌝ }
 {
     let n = taps.len();
     for i in 0..n {
-        taps[i] = tap_with(lp, i0, i as u64);
+        taps[i] = lp.tap(i as u64);
     }
 }
 
-// Fills the buffer by a design that comes with the series at its beta, or leaves it.
-pub(crate) fn finish(p: Prepared, taps: &mut [f64]) -> Verdict
-    ensures { λ r. ⌜ (Normed p → Fills (outcomeOf (p .designed)) (now (taps .entry)) r (now (taps .exit))) ⌝ }
+// Fills the buffer by a design, or leaves it.
+pub(crate) fn finish(designed: Designed, taps: &mut [f64]) -> Verdict
+    ensures { λ r. ⌜ Fills (outcomeOf designed) (now (taps .entry)) r (now (taps .exit)) ⌝ }
 {
-    let designed = p.designed;
     match designed {
         Designed::Ready(lp) => {
-            fill(lp, p.i0, &mut *taps);
+            fill(lp, &mut *taps);
             Verdict::Done
         }
         Designed::Refused(why) => Verdict::Refused(why),
@@ -42,6 +38,6 @@ pub fn firwin_lowpass(cutoff: f64, rate: f64, window: Window, taps: &mut [f64]) 
     ensures { λ r. ⌜ Fills (outcomeOf (lowpassOf cutoff rate window (length (now (taps .entry))))) (now (taps .entry)) r (now (taps .exit)) ⌝ }
 {
     let mut none = [0.0f64; 1];
-    let p = prepare(cutoff, rate, window, taps.len() as u64, &mut none);
-    finish(p, &mut *taps)
+    let designed = prepare(cutoff, rate, window, taps.len() as u64, &mut none);
+    finish(designed, &mut *taps)
 }

@@ -21,7 +21,7 @@ pub fn channelizer_prototype(
 {
     let mut none = [0.0f64; 1];
     let len = taps.len() as u64;
-    let p = fitted(
+    let designed = fitted(
         channels,
         branch,
         passband,
@@ -30,5 +30,5 @@ pub fn channelizer_prototype(
         len,
         &mut none,
     );
-    finish(p, &mut *taps)
+    finish(designed, &mut *taps)
 }

@@ -13,6 +13,6 @@ pub fn design(spec: DesignSpec, rate: f64, cap: u64, taps: &mut [f64]) -> Verdic
     ensures { λ r. ⌜ Fills (outcomeOf (specDesignOf spec rate cap (length (now (taps .entry))))) (now (taps .entry)) r (now (taps .exit)) ⌝ }
 {
     let mut none = [0.0f64; 1];
-    let p = spec_prepare(spec, rate, cap, taps.len() as u64, &mut none);
-    finish(p, &mut *taps)
+    let designed = spec_prepare(spec, rate, cap, taps.len() as u64, &mut none);
+    finish(designed, &mut *taps)
 }

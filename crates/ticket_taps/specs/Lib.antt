@@ -1,1 +1,3 @@
 pub mod Sources
+pub mod Fits
+pub mod FitsLaws

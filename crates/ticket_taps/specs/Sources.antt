@@ -1,5 +1,4 @@
--- A design of any kind with the series at its beta, where it has one: its taps, and the raw taps that were kept of it.
--- Definitions only.
+-- A design of any kind: its taps, and the raw taps that were kept of it. Definitions only.
 use Prim.Native.Nat.{ℕ}
 use mathlib.Core.List.{List}
 use lib.Ieee.{Float}
@@ -13,14 +12,14 @@ use Rattle.ticket_taps.specs.declared.Source.the-variants as Source
 
 -- tap i
 abbrev pub tapAt : Source → ℕ → Float
-tapAt (Source.Lowpass l i0) i = Lowpass.tapWith l i0 i
-tapAt (Source.Halfband d i0) i = Halfband.tapWith d i0 i
+tapAt (Source.Lowpass l) i = Lowpass.tapOf l i
+tapAt (Source.Halfband d) i = Halfband.tapOf d i
 tapAt (Source.Gaussian g) i = Gaussian.tapOf g i
 tapAt (Source.Rrc d) i = Rrc.tapOf d i
 
 -- a list keeps the first raw taps, where any are kept
 abbrev pub CachedFor : Source → List Float → Type 0
-CachedFor (Source.Lowpass l i0) rs = Caches l i0 rs
-CachedFor (Source.Halfband d i0) rs = Caches (d .lp) i0 rs
+CachedFor (Source.Lowpass l) rs = Caches l rs
+CachedFor (Source.Halfband d) rs = Caches (d .lp) rs
 CachedFor (Source.Gaussian g) rs = Gaussian.Caches g rs
 CachedFor (Source.Rrc d) rs = Unit {0}

@@ -10,14 +10,14 @@ ghost use Prim.Native.Nat.{_*_, _/_, _≤_};
 ghost use lib.ListN.{length};
 ghost use Rattle.laws.specs.Chunks.{chunked};
 ghost use Rattle.wire.specs.Bytes.{floatBytes};
-ghost use Rattle.fir_lowpass.specs.Lowpass.{tapWith};
+ghost use Rattle.fir_lowpass.specs.Lowpass.{tapOf};
 ghost use Rattle.fir_lowpass.specs.Cached.{Caches};
 ghost use Rattle.ticket_taps.specs.Sources.{tapAt, CachedFor};
 
-// A design of any kind, with the series at its beta where it has one.
+// A design of any kind.
 pub enum Source {
-    Lowpass(Lowpass, f64),
-    Halfband(HalfbandDesign, f64),
+    Lowpass(Lowpass),
+    Halfband(HalfbandDesign),
     Gaussian(Gaussian),
     Rrc(Rrc),
 }
@@ -27,8 +27,8 @@ fn tap_at(source: Source, raws: &[f64], i: u64) -> f64
     ensures { λ r. ⌜ (CachedFor source (now (raws .entry)) → r ≡ tapAt source i) ⌝ }
 {
     match source {
-        Source::Lowpass(lp, i0) => fir_lowpass::lowpass::cached_tap(lp, i0, raws, i),
-        Source::Halfband(d, i0) => fir_halfband::cached_tap(d, i0, raws, i),
+        Source::Lowpass(lp) => fir_lowpass::lowpass::cached_tap(lp, raws, i),
+        Source::Halfband(d) => fir_halfband::cached_tap(d, raws, i),
         Source::Gaussian(g) => fir_gaussian::gaussian_design::cached_tap(g, raws, i),
         Source::Rrc(d) => d.tap(i),
     }
@@ -43,8 +43,8 @@ fn smaller(a: usize, b: usize) -> usize
 
 // Puts the first taps of a low-pass in their places, as many as raw taps are kept, and tells how many. A loop of its
 // own, since a division is all that each needs.
-fn put_cached(lp: Lowpass, i0: f64, raws: &[f64], out: &mut [u8]) -> usize
-    ensures { λ r. ⌜ 8 * r ≤ length (now (out .entry)) ⌝ ∗ ⌜ (Caches lp i0 (now (raws .entry)) → now (out .exit) ≡ chunked 8 r (λ k. floatBytes (tapWith lp i0 k)) (now (out .entry))) ⌝ }
+fn put_cached(lp: Lowpass, raws: &[f64], out: &mut [u8]) -> usize
+    ensures { λ r. ⌜ 8 * r ≤ length (now (out .entry)) ⌝ ∗ ⌜ (Caches lp (now (raws .entry)) → now (out .exit) ≡ chunked 8 r (λ k. floatBytes (tapOf lp k)) (now (out .entry))) ⌝ }
 {
     if lp.n > TAP_LIMIT {
         return 0;
@@ -61,7 +61,7 @@ fn put_first(source: Source, raws: &[f64], out: &mut [u8]) -> usize
     ensures { λ r. ⌜ 8 * r ≤ length (now (out .entry)) ⌝ ∗ ⌜ (CachedFor source (now (raws .entry)) → now (out .exit) ≡ chunked 8 r (λ k. floatBytes (tapAt source k)) (now (out .entry))) ⌝ }
 {
     match source {
-        Source::Lowpass(lp, i0) => put_cached(lp, i0, raws, &mut *out),
+        Source::Lowpass(lp) => put_cached(lp, raws, &mut *out),
         _ => 0,
     }
 }

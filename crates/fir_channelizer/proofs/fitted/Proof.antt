@@ -2,10 +2,10 @@
 use mathlib.Core.Path.{sym, ap, _∙_}
 use borrow.Author.Needs.{needs}
 use borrow.Author.Tests.{ne-eqb}
-use Rattle.fir_lowpass.specs.LowpassLaws.{is-design}
+use Rattle.fir_lowpass.specs.LowpassLaws.{prepares-refusal}
 use Rattle.fir_lowpass.specs.declared.lowpass.Designed.{Designed}
 use Rattle.fir_channelizer.specs.Channelizer.{fittedOf}
-use Rattle.fir_channelizer.specs.ChannelizerLaws.{refuses, fits-as}
+use Rattle.fir_channelizer.specs.ChannelizerLaws.{fits-as}
 use Rattle.fir_channelizer.proofs.fitted.Statement.{statement}
 use Rattle.fir_channelizer.proofs.fitted.Tie as tie
 
@@ -15,14 +15,8 @@ prepare-requires c κs = search needs
 enum-known-designed : tie.Need-enum-known-designed
 enum-known-designed c = search needs
 
-refused-requires : tie.Need-refused-requires
-refused-requires c κs = search needs
-
 enum-known-designed-2 : tie.Need-enum-known-designed-2
 enum-known-designed-2 c = search needs
-
-refused-requires-2 : tie.Need-refused-requires-2
-refused-requires-2 c κs = search needs
 
 same-length : tie.Need-same-length
 same-length c = search needs
@@ -37,22 +31,21 @@ same-length-2 c = search needs
 
 returns-2 : tie.Need-returns-2
 returns-2 c =
-    let d = c .before .before .before in
+    let d = c .before .before in
     let p = d .before .before .before .before in
     let a = p .before .before .before .args in
     let g = d .designed .given in
-    refuses _ (c .refused .result) _ _ (c .refused .ensures)
-    (ap (λ (z : Designed). fittedOf z (a .len)) (sym (is-design (p .prepare .ensures)) ∙ g .1) ∙ rw (ne-eqb (g .0 .0 .n) (a .len) (c .before .if1 .left)))
+    prepares-refusal _ _ _ (ap (λ (z : Designed). fittedOf z (a .len)) (sym (p .prepare .ensures .is) ∙ g .1) ∙ rw (ne-eqb (g .0 .0 .n) (a .len) (c .if1 .left)))
 
 same-length-3 : tie.Need-same-length-3
 same-length-3 c = search needs
 
 returns-3 : tie.Need-returns-3
 returns-3 c =
-    let d = c .before .before in
+    let d = c .before in
     let p = d .before .before .before .before in
     let a = p .before .before .before .args in
-    refuses _ (c .refused2 .result) _ _ (c .refused2 .ensures) (ap (λ (z : Designed). fittedOf z (a .len)) (sym (is-design (p .prepare .ensures)) ∙ d .designed2 .given .1))
+    prepares-refusal _ _ _ (ap (λ (z : Designed). fittedOf z (a .len)) (sym (p .prepare .ensures .is) ∙ d .designed2 .given .1))
 
 pub fitted-spec : {M : Type 1} → statement M
 fitted-spec =
@@ -60,9 +53,7 @@ fitted-spec =
     (tie.spec
     prepare-requires
     enum-known-designed
-    refused-requires
     enum-known-designed-2
-    refused-requires-2
     same-length
     returns
     same-length-2

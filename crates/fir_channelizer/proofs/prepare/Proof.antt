@@ -7,11 +7,11 @@ use borrow.Author.Needs.{needs}
 use borrow.Author.Tests.{not-true, not-false}
 use lib.Ieee.{Float, ofBits, ofInt}
 use Rattle.laws.specs.Binary64.{_⊕_, _⊗_, _⊘_, whole}
-use Rattle.fir_lowpass.specs.Lowpass.{lowpassOf}
-use Rattle.fir_lowpass.specs.LowpassLaws.{prepares-as}
+use Rattle.fir_lowpass.specs.Lowpass.{wherePassed, lowpassOf}
+use Rattle.fir_lowpass.specs.LowpassLaws.{prepares-as, prepares-refusal}
 use Rattle.fir_sinc.specs.declared.window.Window.the-variants.{Kaiser}
-use Rattle.fir_channelizer.specs.Channelizer.{channelsTaken, branchTaken, edgesOf, lowpassIn, channelizerLowpassOf}
-use Rattle.fir_channelizer.specs.ChannelizerLaws.{prototypeOf, product-most, by-edges, no-branch, no-channels, refuses}
+use Rattle.fir_channelizer.specs.Channelizer.{channelsTaken, branchTaken, edgesOf, channelizerLowpassOf}
+use Rattle.fir_channelizer.specs.ChannelizerLaws.{prototypeOf, product-most, by-edges, no-branch, no-channels}
 use Rattle.verdict.specs.declared.Verdict.{Verdict}
 use Rattle.verdict.specs.declared.Verdict.the-variants.{Done, Refused}
 use Rattle.fir_channelizer.proofs.prepare.Statement.{statement}
@@ -28,34 +28,28 @@ past2 c = sym (c .before .takes-branch .ensures) ∙ not-false _ (c .if2 .left)
 abbrev start : tie.Else2 → tie.Start
 start c = c .before .before .before .before .before
 
-answer : (c : tie.Else2) (k : Verdict) → edgesOf (start c .args .passband) (start c .args .stopband) (start c .args .attenuation) ≡ k → channelizerLowpassOf (start c .args .channels) (start c .args .branch) (start c .args .passband) (start c .args .stopband) (start c .args .attenuation) ≡ lowpassIn k (prototypeOf (start c .args .channels) (start c .args .branch) (start c .args .passband) (start c .args .stopband) (start c .args .attenuation))
+answer : (c : tie.Else2) (k : Verdict) → edgesOf (start c .args .passband) (start c .args .stopband) (start c .args .attenuation) ≡ k → channelizerLowpassOf (start c .args .channels) (start c .args .branch) (start c .args .passband) (start c .args .stopband) (start c .args .attenuation) ≡ wherePassed k (prototypeOf (start c .args .channels) (start c .args .branch) (start c .args .passband) (start c .args .stopband) (start c .args .attenuation))
 answer c k e =
     let a = start c .args in
     by-edges (a .channels) (a .branch) (a .passband) (a .stopband) (a .attenuation) (past1 (c .before .before)) (past2 c)
-    ∙ ap (λ (z : Verdict). lowpassIn z (prototypeOf (a .channels) (a .branch) (a .passband) (a .stopband) (a .attenuation))) e
+    ∙ ap (λ (z : Verdict). wherePassed z (prototypeOf (a .channels) (a .branch) (a .passband) (a .stopband) (a .attenuation))) e
 
 takes-channels-requires : tie.Need-takes-channels-requires
 takes-channels-requires c κs = search needs
 
-refused-requires : tie.Need-refused-requires
-refused-requires c κs = search needs
-
 returns : tie.Need-returns
 returns c =
-    let a = c .before .before .before .before .args in
-    refuses _ (c .refused .result) _ _ (c .refused .ensures) (no-channels (a .channels) (a .branch) (a .passband) (a .stopband) (a .attenuation) (sym (c .before .before .takes-channels .ensures) ∙ not-true _ (c .before .if1 .taken)))
+    let a = c .before .before .before .args in
+    prepares-refusal _ _ _ (no-channels (a .channels) (a .branch) (a .passband) (a .stopband) (a .attenuation) (sym (c .before .takes-channels .ensures) ∙ not-true _ (c .if1 .taken)))
 
 takes-branch-requires : tie.Need-takes-branch-requires
 takes-branch-requires c κs = search needs
 
-refused-requires-2 : tie.Need-refused-requires-2
-refused-requires-2 c κs = search needs
-
 returns-2 : tie.Need-returns-2
 returns-2 c =
-    let e1 = c .before .before .before in
+    let e1 = c .before .before in
     let a = e1 .before .before .before .args in
-    refuses _ (c .refused2 .result) _ _ (c .refused2 .ensures) (no-branch (a .channels) (a .branch) (a .passband) (a .stopband) (a .attenuation) (past1 e1) (sym (c .before .before .takes-branch .ensures) ∙ not-true _ (c .before .if2 .taken)))
+    prepares-refusal _ _ _ (no-branch (a .channels) (a .branch) (a .passband) (a .stopband) (a .attenuation) (past1 e1) (sym (c .before .takes-branch .ensures) ∙ not-true _ (c .if2 .taken)))
 
 check-edges-requires : tie.Need-check-edges-requires
 check-edges-requires c κs = search needs
@@ -83,9 +77,6 @@ prepare-requires c κs = search needs
 enum-known-checked : tie.Need-enum-known-checked
 enum-known-checked c = search needs
 
-refused-requires-3 : tie.Need-refused-requires-3
-refused-requires-3 c κs = search needs
-
 same-length : tie.Need-same-length
 same-length c = search needs
 
@@ -106,20 +97,18 @@ returns-3 c =
 
 returns-4 : tie.Need-returns-4
 returns-4 c =
-    let d = c .before .before in
+    let d = c .before in
     let k = d .before .before in
     let e2 = k .before in
-    refuses _ (c .refused3 .result) _ _ (c .refused3 .ensures) (answer e2 (Refused (d .checked .given .0 .0)) (sym (k .check-edges .ensures) ∙ d .checked .given .1))
+    prepares-refusal _ _ _ (answer e2 (Refused (d .checked .given .0 .0)) (sym (k .check-edges .ensures) ∙ d .checked .given .1))
 
 pub prepare-spec : {M : Type 1} → statement M
 prepare-spec =
     tie.close
     (tie.spec
     takes-channels-requires
-    refused-requires
     returns
     takes-branch-requires
-    refused-requires-2
     returns-2
     check-edges-requires
     enum-told
@@ -128,7 +117,6 @@ prepare-spec =
     mul-prepare
     prepare-requires
     enum-known-checked
-    refused-requires-3
     same-length
     returns-3
     returns-4)

@@ -5,7 +5,7 @@ use Prim.Native.Nat.{ℕ, _*_, _-_, _≤_}
 use native.Mathlib.Omega.{arith}
 use lib.ListN.{length}
 use lib.Ieee.{Float, binary64, toBits}
-use Rattle.fir_lowpass.specs.Lowpass.{tapWith}
+use Rattle.fir_lowpass.specs.Lowpass.{tapOf}
 use Rattle.fir_lowpass.specs.declared.lowpass.Lowpass.{Lowpass}
 use Rattle.fir_lowpass.specs.Cached.{Caches}
 use Rattle.fir_lowpass.specs.CachedLaws.{cached-is}
@@ -14,19 +14,19 @@ use Rattle.ticket_taps.proofs.put_cached.Statement.{statement}
 use Rattle.ticket_taps.proofs.put_cached.Tie as tie
 
 -- the pattern of tap k
-abbrev tapBits : Lowpass → Float → ℕ → ℕ
-tapBits lp i0 k = toBits binary64 (tapWith lp i0 k)
+abbrev tapBits : Lowpass → ℕ → ℕ
+tapBits lp k = toBits binary64 (tapOf lp k)
 
 abbrev Inv-loop : tie.InvT-loop
-Inv-loop lp i0 raws out₀ m i₀ out i = (i ≤ m) × WrittenPrefix 8 (Caches lp i0 raws) (tapBits lp i0) out₀ i out
+Inv-loop lp raws out₀ m i₀ out i = (i ≤ m) × WrittenPrefix 8 (Caches lp raws) (tapBits lp) out₀ i out
 
 abbrev μ-loop : tie.MeasureT-loop
-μ-loop lp i0 raws out₀ m i₀ out i = m - i
+μ-loop lp raws out₀ m i₀ out i = m - i
 
 returns : tie.Need-returns Inv-loop μ-loop
 returns c =
     let a = c .before .before .before .before .args in
-    (omega arith, at-first 8 (Caches (a .lp) (a .i0) (a .raws .now)) (tapBits (a .lp) (a .i0)) (a .out .now) .stands)
+    (omega arith, at-first 8 (Caches (a .lp) (a .raws .now)) (tapBits (a .lp)) (a .out .now) .stands)
 
 smaller-requires : tie.Need-smaller-requires Inv-loop μ-loop
 smaller-requires c κs = tt
@@ -44,7 +44,7 @@ room c =
 loop-holds : tie.Need-loop-holds Inv-loop μ-loop
 loop-holds c =
     let a = c .before .before .before .before .before .before .args in
-    (omega arith, at-first 8 (Caches (a .lp) (a .i0) (a .raws .now)) (tapBits (a .lp) (a .i0)) (a .out .now))
+    (omega arith, at-first 8 (Caches (a .lp) (a .raws .now)) (tapBits (a .lp)) (a .out .now))
 
 mul-put-f64 : tie.Need-mul-put-f64 Inv-loop μ-loop
 mul-put-f64 c = omega (arith, room (c .before .before .before))
@@ -76,7 +76,7 @@ loop-again c =
     let r = at .before .smaller2 .ensures .0 in
     let q = at .before .before .smaller .ensures .1 in
     let few = at .before .before .before .if1 .left in
-    (omega arith, one-more (at .loop .inv .1) (omega (arith, room (at .before))) (λ k. ap (λ (x : Float). toBits binary64 x) (cached-is (a .lp) (a .i0) (a .raws .now) i (omega arith) (omega arith) (omega arith) k)) (c .before .before .put-f64 .ensures))
+    (omega arith, one-more (at .loop .inv .1) (omega (arith, room (at .before))) (λ k. ap (λ (x : Float). toBits binary64 x) (cached-is (a .lp) (a .raws .now) i (omega arith) (omega arith) (omega arith) k)) (c .before .before .put-f64 .ensures))
 
 same-length : tie.Need-same-length Inv-loop μ-loop
 same-length c = c .before .loop .inv .1 .size

@@ -5,7 +5,7 @@ use lib.ListN.{length}
 use Rattle.verdict.specs.Outcome.{Outcome}
 use Rattle.fir_halfband.specs.Halfband.{halfbandOf, outcomeOf}
 use Rattle.wire.specs.WritesLaws.{room, leaves-part, writes-whole}
-use Rattle.fir_halfband.specs.HalfbandLaws.{is-design, halfband-count}
+use Rattle.fir_halfband.specs.HalfbandLaws.{halfband-count}
 use Rattle.c_pulses.proofs.FitsLaws.{fits-halfband}
 use borrow.Author.Needs.{needs}
 use Rattle.c_pulses.proofs.halfbands.pel_halfband.Statement.{statement}
@@ -51,7 +51,7 @@ returns-2 : tie.Need-returns-2
 returns-2 c =
     let p = c .before .before .before .before .before .before in
     let start = p .before .before .before .before in
-    writes-whole 8 (len start) (outcome start) (p .before .before .if1 .left) (ap outcomeOf (is-design (p .prepare .ensures))) (c .before .before .write-halfband .ensures)
+    writes-whole 8 (len start) (outcome start) (p .before .before .if1 .left) (ap outcomeOf (p .prepare .ensures .is)) (c .before .before .write-halfband .ensures)
 
 pub pel-halfband-spec : {M : Type 1} → statement M
 pel-halfband-spec =

@@ -1,11 +1,5 @@
 -- `c_pulses::write::write_halfband` meets its contract, a design and a refusal. Assumes nothing.
-use mathlib.Core.Path.{ap, _∙_}
-use Prim.Native.Nat.{_/_}
-use lib.ListN.{length}
-use lib.Ieee.{Float}
-use Rattle.laws.specs.Chunks.{chunked}
-use Rattle.wire.specs.Bytes.{floatBytes}
-use Rattle.fir_halfband.specs.Halfband.{tapWith, tapOf}
+use mathlib.Core.Path.{ap}
 use Rattle.c_pulses.specs.Sources.{ofHalfband}
 use Rattle.wire.specs.WritesLaws.{leaves, fills-room}
 use borrow.Author.Needs.{needs}
@@ -31,15 +25,12 @@ same-length : tie.Need-same-length
 same-length c = search needs
 
 returns : tie.Need-returns
-unfolding tapOf
 returns c =
     let t = c .before .before .before .before .before .before in
     let g = t .designed .given in
     let s = t .before .before .before .before in
     let d = g .0 .0 in
-    let a = s .args .out .now in
-    fills-room (ap ofHalfband (g .1)) (c .accepted .ensures) (s .pre .room)
-    (c .before .before .before .put-taps .ensures (s .pre .raws d (g .1)) ∙ ap (λ (z : Float). chunked 8 (length a / 8) (λ i. floatBytes (tapWith d z i)) a) (s .pre .normed d (g .1)))
+    fills-room (ap ofHalfband (g .1)) (c .accepted .ensures) (s .pre .room) (c .before .before .before .put-taps .ensures (s .pre .raws d (g .1)))
 
 returns-2 : tie.Need-returns-2
 returns-2 c = leaves (ap ofHalfband (c .before .before .designed2 .given .1)) (c .refused .ensures)

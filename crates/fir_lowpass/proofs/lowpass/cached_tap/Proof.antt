@@ -14,14 +14,14 @@ shared-slice-read-result c = search needs
 returns : tie.Need-returns
 returns c =
     let at = c .before .before .before .before .before .before in
-    λ k. cached-is (at .args .lp) (at .args .i0) (at .args .raws .now) (at .args .i) (c .before .before .if3 .taken) (c .before .before .before .if2 .taken) (c .before .before .before .before .if1 .taken) k
+    λ k. cached-is (at .args .lp) (at .args .raws .now) (at .args .i) (c .before .before .if3 .taken) (c .before .before .before .if2 .taken) (c .before .before .before .before .if1 .taken) k
 
-tap-with-requires : tie.Need-tap-with-requires
-tap-with-requires c κs = search needs
+tap-requires : tie.Need-tap-requires
+tap-requires c κs = search needs
 
 returns-2 : tie.Need-returns-2
-returns-2 c = λ k. c .tap-with .ensures
+returns-2 c = λ k. c .tap .ensures
 
 pub cached-tap-spec : {M : Type 1} → statement M
 cached-tap-spec =
-    tie.close (tie.spec mul-result shared-slice-read-result returns tap-with-requires returns-2)
+    tie.close (tie.spec mul-result shared-slice-read-result returns tap-requires returns-2)

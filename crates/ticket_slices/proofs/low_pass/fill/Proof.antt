@@ -6,26 +6,26 @@ use native.Mathlib.Omega.{arith}
 use borrow.Author.Needs.{scaled-fits}
 use lib.ListN.{length}
 use Rattle.laws.specs.Filled.{filled, fill-none, fill-more, fill-all, length-filled}
-use Rattle.fir_lowpass.specs.Lowpass.{tapWith, tapsOf}
+use Rattle.fir_lowpass.specs.Lowpass.{tapOf, tapsOf}
 use Rattle.ticket_slices.proofs.low_pass.fill.Statement.{statement}
 use Rattle.ticket_slices.proofs.low_pass.fill.Tie as tie
 
 abbrev Inv-loop : tie.InvT-loop
-Inv-loop lp i0 taps₀ n i₀ taps i = (i ≤ length taps₀) × (taps ≡ filled i (tapWith lp i0) taps₀)
+Inv-loop lp taps₀ n i₀ taps i = (i ≤ length taps₀) × (taps ≡ filled i (tapOf lp) taps₀)
 
 abbrev μ-loop : tie.MeasureT-loop
-μ-loop lp i0 taps₀ n i₀ taps i = length taps₀ - i
+μ-loop lp taps₀ n i₀ taps i = length taps₀ - i
 
 loop-holds : tie.Need-loop-holds Inv-loop μ-loop
 loop-holds c = (omega arith, fill-none _ _)
 
-tap-with-requires : tie.Need-tap-with-requires Inv-loop μ-loop
-tap-with-requires c κs = tt
+tap-requires : tie.Need-tap-requires Inv-loop μ-loop
+tap-requires c κs = tt
 
 mul-taps : tie.Need-mul-taps Inv-loop μ-loop
 mul-taps c =
     let at = c .before .before in
-    scaled-fits (at .loop .i) (length (at .before .before .args .taps .now)) 8 (omega arith) (at .before .before .good .1 .1 .0 .1)
+    scaled-fits (at .loop .i) (length (at .before .before .args .taps .now)) 8 (omega arith) (at .before .before .good .1 .0 .1)
 
 slice-write-taps : tie.Need-slice-write-taps Inv-loop μ-loop
 slice-write-taps c =
@@ -43,7 +43,7 @@ loop-again : tie.Need-loop-again Inv-loop μ-loop
 loop-again c =
     let at = c .before .before in
     let a = at .before .before .args in
-    (omega arith, cc (fill-more (at .loop .i) (tapWith (a .lp) (a .i0)) (a .taps .now) (omega arith)))
+    (omega arith, cc (fill-more (at .loop .i) (tapOf (a .lp)) (a .taps .now) (omega arith)))
 
 same-length : tie.Need-same-length Inv-loop μ-loop
 same-length c = ap length (c .before .loop .inv .1) ∙ length-filled _ _ _ (omega arith)
@@ -54,7 +54,7 @@ returns c =
     let at = c .before in
     let a = at .before .before .args in
     let e : at .loop .i ≡ length (a .taps .now) = omega arith in
-    let k = fill-all (at .loop .i) (tapWith (a .lp) (a .i0)) (a .taps .now) (omega arith) in
+    let k = fill-all (at .loop .i) (tapOf (a .lp)) (a .taps .now) (omega arith) in
     cc
 
 pub fill-spec : {M : Type 1} → statement M
@@ -64,7 +64,7 @@ fill-spec =
     Inv-loop
     μ-loop
     loop-holds
-    tap-with-requires
+    tap-requires
     mul-taps
     slice-write-taps
     add-i

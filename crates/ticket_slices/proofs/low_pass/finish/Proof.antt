@@ -18,16 +18,16 @@ same-length : tie.Need-same-length
 same-length c = search needs
 
 returns : tie.Need-returns
-returns c k =
+returns c =
     let d = c .before .before .before .before .before .designed .given in
     let s = c .before .before .before .before .before .before .before .before in
-    fills (s .args .p .designed) (now (s .args .taps)) (d .0 .0) (s .args .p .i0) _ (d .1) (k (d .0 .0) (d .1)) (c .before .before .fill .ensures)
+    fills (s .args .designed) (now (s .args .taps)) (d .0 .0) _ (d .1) (c .before .before .fill .ensures)
 
 returns-2 : tie.Need-returns-2
-returns-2 c k =
+returns-2 c =
     let d = c .before .designed2 .given in
     let s = c .before .before .before .before in
-    leaves (s .args .p .designed) (now (s .args .taps)) (d .0 .0) (d .1)
+    leaves (s .args .designed) (now (s .args .taps)) (d .0 .0) (d .1)
 
 pub finish-spec : {M : Type 1} → statement M
 finish-spec =

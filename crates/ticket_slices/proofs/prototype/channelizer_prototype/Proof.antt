@@ -1,6 +1,6 @@
 -- `ticket_slices::prototype::channelizer_prototype` meets its contract. Assumes nothing.
 use borrow.Author.Needs.{needs}
-use Rattle.fir_lowpass.specs.LowpassLaws.{is-design, has-series, fills-as}
+use Rattle.fir_lowpass.specs.LowpassLaws.{fills-as}
 use Rattle.ticket_slices.proofs.prototype.channelizer_prototype.Statement.{statement}
 use Rattle.ticket_slices.proofs.prototype.channelizer_prototype.Tie as tie
 
@@ -18,8 +18,7 @@ same-length c = search needs
 
 returns : tie.Need-returns
 returns c =
-    let p = c .before .before .before .before .before .fitted .ensures in
-    fills-as (is-design p) (c .before .before .finish .ensures (has-series p))
+    fills-as (c .before .before .before .before .before .fitted .ensures .is) (c .before .before .finish .ensures)
 
 pub channelizer-prototype-spec : {M : Type 1} → statement M
 channelizer-prototype-spec =

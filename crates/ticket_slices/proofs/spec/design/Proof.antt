@@ -1,6 +1,6 @@
 -- `ticket_slices::spec::design` meets its contract. Assumes nothing.
 use mathlib.Core.Path.{refl}
-use Rattle.fir_lowpass.specs.LowpassLaws.{is-design, has-series, fills-as}
+use Rattle.fir_lowpass.specs.LowpassLaws.{fills-as}
 use borrow.Author.Needs.{needs}
 use Rattle.ticket_slices.proofs.spec.design.Statement.{statement}
 use Rattle.ticket_slices.proofs.spec.design.Tie as tie
@@ -19,8 +19,7 @@ same-length c = search needs
 
 returns : tie.Need-returns
 returns c =
-    let p = c .before .before .before .before .before .spec-prepare .ensures in
-    fills-as (is-design p) (c .before .before .finish .ensures (has-series p))
+    fills-as (c .before .before .before .before .before .spec-prepare .ensures .is) (c .before .before .finish .ensures)
 
 pub design-spec : {M : Type 1} → statement M
 design-spec =

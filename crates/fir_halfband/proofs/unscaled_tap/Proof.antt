@@ -1,20 +1,20 @@
--- `fir_halfband::unscaled` meets its contract: the index that comes first is the lesser one. Assumes nothing.
+-- `fir_halfband::unscaled_tap` meets its contract: the index that comes first is the lesser one. Assumes nothing.
 use mathlib.Core.Path.{_≡_, sym, ap, _∙_}
 use Prim.Native.Nat.{ℕ, _-_, min}
 use native.Mathlib.Omega.{arith}
 use borrow.Author.Needs.{needs}
 use lib.Ieee.{ofBits, ofInt}
 use Rattle.laws.specs.Cases.{either}
-use Rattle.fir_lowpass.specs.Lowpass.{tapWith}
-use Rattle.fir_halfband.specs.Halfband.{unscaledWith}
-use Rattle.fir_halfband.proofs.unscaled.Statement.{statement}
-use Rattle.fir_halfband.proofs.unscaled.Tie as tie
+use Rattle.fir_lowpass.specs.Lowpass.{tapOf}
+use Rattle.fir_halfband.specs.Halfband.{unscaled}
+use Rattle.fir_halfband.proofs.unscaled_tap.Statement.{statement}
+use Rattle.fir_halfband.proofs.unscaled_tap.Tie as tie
 
 is-zero-at-requires : tie.Need-is-zero-at-requires
 is-zero-at-requires c κs = search needs
 
 returns : tie.Need-returns
-unfolding unscaledWith ofInt ofBits
+unfolding unscaled ofInt ofBits
 returns c k = sym (rw (sym (c .before .is-zero-at .ensures) ∙ c .if1 .taken))
 
 sub-across : tie.Need-sub-across
@@ -30,12 +30,12 @@ is-lesser : (c : tie.Joined2) → let a = c .before .before .before .before .arg
 is-lesser c = either (c .if2 .came) (λ w. let h = w .0 .taken in w .1 ∙ omega arith) (λ w. let h = w .0 .left in w .1 ∙ omega arith)
 
 returns-2 : tie.Need-returns-2
-unfolding unscaledWith
+unfolding unscaled
 returns-2 c k =
     let a = c .before .before .before .before .before .args in
-    c .cached-tap .ensures k ∙ ap (λ (j : ℕ). tapWith (a .lp) (a .i0) j) (is-lesser (c .before)) ∙ sym (rw (sym (c .before .before .before .is-zero-at .ensures) ∙ c .before .before .if1 .left))
+    c .cached-tap .ensures k ∙ ap (λ (j : ℕ). tapOf (a .lp) j) (is-lesser (c .before)) ∙ sym (rw (sym (c .before .before .before .is-zero-at .ensures) ∙ c .before .before .if1 .left))
 
-pub unscaled-spec : {M : Type 1} → statement M
-unscaled-spec =
+pub unscaled-tap-spec : {M : Type 1} → statement M
+unscaled-tap-spec =
     tie.close
     (tie.spec is-zero-at-requires returns sub-across sub-across-2 cached-tap-requires returns-2)
