@@ -8,8 +8,8 @@ use Rattle.fir_lowpass.specs.declared.lowpass.Designed.the-variants.{Refused}
 use Rattle.verdict.specs.Outcome.{Outcome}
 use Rattle.verdict.specs.Outcome as Outcome
 use Rattle.fir_lowpass.specs.Lowpass.{lowpassOf, outcomeOf}
-use Rattle.c_lowpass.specs.declared.codes.Coded.{Coded}
-use Rattle.c_lowpass.specs.declared.codes.Coded.the-variants.{Known, Unknown}
+use Rattle.ticket_codes.specs.declared.Coded.{Coded}
+use Rattle.ticket_codes.specs.declared.Coded.the-variants.{Known, Unknown}
 use Rattle.wire.specs.Writes.{wholeTaps}
 
 abbrev pub lowpassCoded : Float → Float → Coded → ℕ → Designed

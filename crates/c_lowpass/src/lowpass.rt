@@ -1,16 +1,16 @@
 // The windowed-sinc low-pass, as exports: the design judged, and its taps in a buffer.
-use super::codes::Coded;
-use super::codes::window_of;
 use super::told::told_lowpass;
 use super::write::write_lowpass;
 use fir_cache::CACHED;
 use fir_lowpass::lowpass::Lowpass;
+use ticket_codes::Coded;
+use ticket_codes::window_of;
 use verdict::BAD_CODE;
 use verdict::Refusal;
 use verdict::Report;
 ghost use mathlib.Core.Path.{_≡_};
 ghost use lib.ListN.{length};
-ghost use Rattle.c_lowpass.specs.Codes.{windowOf};
+ghost use Rattle.ticket_codes.specs.Codes.{windowOf};
 ghost use Rattle.fir_lowpass.specs.Lowpass.{outcomeOf};
 ghost use Rattle.verdict.specs.Reports.{outcomeReport};
 ghost use Rattle.wire.specs.Bytes.{floatBytes};
@@ -61,8 +61,8 @@ pub extern "C" fn pel_lowpass(
                 return verdict::refused(Refusal::Length(len - len % 8, len));
             }
             let mut raws = [0.0f64; CACHED];
-            let p = fir_lowpass::lowpass::prepare(cutoff, rate, w, len / 8, &mut raws);
-            write_lowpass(p, &raws, &mut *out)
+            let designed = fir_lowpass::lowpass::prepare(cutoff, rate, w, len / 8, &mut raws);
+            write_lowpass(designed, &raws, &mut *out)
         }
         Coded::Unknown => verdict::refused(Refusal::Plain(BAD_CODE)),
     }

@@ -91,7 +91,7 @@ pub extern "C" fn pel_channelizer_prototype(
         return verdict::refused(Refusal::Length(len - len % 8, len));
     }
     let mut raws = [0.0f64; CACHED];
-    let p = fir_channelizer::fitted(
+    let designed = fir_channelizer::fitted(
         channels,
         branch,
         passband,
@@ -100,5 +100,5 @@ pub extern "C" fn pel_channelizer_prototype(
         len / 8,
         &mut raws,
     );
-    write_lowpass(p, &raws, &mut *out)
+    write_lowpass(designed, &raws, &mut *out)
 }

@@ -86,6 +86,6 @@ pub extern "C" fn pel_spec_design(
         attenuation: attenuation,
     };
     let mut raws = [0.0f64; CACHED];
-    let p = fir_spec::spec_prepare(spec, rate, cap, len / 8, &mut raws);
-    write_lowpass(p, &raws, &mut *out)
+    let designed = fir_spec::spec_prepare(spec, rate, cap, len / 8, &mut raws);
+    write_lowpass(designed, &raws, &mut *out)
 }

@@ -2,7 +2,7 @@
 use verdict::Report;
 ghost use lib.ListN.{length};
 ghost use Rattle.wire.specs.Bytes.{floatBytes};
-ghost use Rattle.c_lowpass.specs.Codes.{windowOf};
+ghost use Rattle.ticket_codes.specs.Codes.{windowOf};
 ghost use Rattle.c_lowpass.specs.Lowpass.{lowpassBytes};
 ghost use Rattle.c_lowpass.specs.Spec.{specOf, specBytes};
 ghost use Rattle.c_lowpass.specs.Prototype.{channelizerBytes};

@@ -7,7 +7,7 @@ ghost use Rattle.fir_channelizer.specs.Channelizer.{channelizerLowpassOf};
 ghost use Rattle.fir_halfband.specs.Halfband as Halfband;
 ghost use Rattle.fir_gaussian.specs.Gaussian as Gaussian;
 ghost use Rattle.fir_rrc.specs.Rrc as Rrc;
-ghost use Rattle.c_lowpass.specs.Codes.{windowOf};
+ghost use Rattle.ticket_codes.specs.Codes.{windowOf};
 ghost use Rattle.c_lowpass.specs.Lowpass.{lowpassCoded};
 ghost use Rattle.c_lowpass.specs.Spec.{specOf};
 ghost use Rattle.promise_refusals.specs.Demand.{Numbered};

@@ -8,3 +8,4 @@ pub mod judgements;
 pub mod lengths;
 pub mod samples;
 pub mod slices;
+pub mod turns;

@@ -4,12 +4,15 @@ use Prim.Native.Nat.{ℕ, _/_}
 use mathlib.Core.List.{List}
 use lib.Dec.{eqb}
 use lib.Ieee.{Float}
+use Rattle.laws.specs.Binary64.{whole}
 use Rattle.laws.specs.Cases.{either-way}
 use Rattle.verdict.specs.Report.{reportOf}
 use Rattle.verdict.specs.Outcome.{Outcome, answered}
 use Rattle.verdict.specs.declared.Verdict.{Verdict}
 use Rattle.verdict.specs.declared.Verdict.the-variants.{Done, Refused}
+use Rattle.fir_sinc.specs.declared.window.Window.the-variants.{Kaiser}
 use Rattle.fir_lowpass.specs.Lowpass as Lowpass
+use Rattle.fir_lowpass.specs.declared.lowpass.Designed.{Designed}
 use Rattle.fir_spec.specs.Spec.{specDesignOf}
 use Rattle.fir_spec.specs.declared.DesignSpec.{DesignSpec}
 use Rattle.fir_halfband.specs.Halfband as Halfband
@@ -23,8 +26,11 @@ use Rattle.win_sampled.specs.declared.shape.Shape.{Shape}
 use Rattle.c_lowpass.specs.Lowpass.{lowpassCoded, lowpassBytes}
 use Rattle.c_lowpass.specs.Spec.{specBytes}
 use Rattle.c_lowpass.specs.Prototype.{channelizerBytes}
-use Rattle.c_lowpass.specs.declared.codes.Coded as WindowCode
-use Rattle.c_lowpass.specs.declared.codes.Coded.the-variants as Window
+use Rattle.ticket_codes.specs.declared.Coded as WindowCode
+use Rattle.ticket_codes.specs.declared.Coded.the-variants as Window
+use Rattle.c_retune.specs.Designs.{lowpassFor, cutoffFor, betaFor}
+use Rattle.c_retune.specs.DesignsLaws.{lowpass-has, cutoff-has, beta-has}
+use Rattle.c_retune.specs.declared.record.Design.{Design}
 use Rattle.c_pulses.specs.Buffers.{halfbandBytes, gaussianBytes, rrcBytes}
 use Rattle.c_sections.specs.Numbers.{numbersOf, biquadBytes, preemphasisBytes, butterworthBytes}
 use Rattle.c_sections.specs.declared.codes.Coded as ResponseCode
@@ -35,7 +41,7 @@ use Rattle.c_windows.specs.declared.codes.Coded.the-variants as Symmetry
 use Rattle.c_windows.specs.declared.sample.Sample.{Sample}
 use Rattle.promise_refusals.specs.Demand.{listed}
 use Rattle.promise_refusals.specs.Listed.{Listed}
-use Rattle.promise_refusals.specs.Judgements.{whole-listed, lowpass-listed, spec-design-listed, halfband-listed, gaussian-listed, gaussian-fitted-listed, rrc-listed, rrc-fitted-listed, channelizer-listed, channelizer-fitted-listed, biquad-listed, preemphasis-listed, butterworth-listed, shape-listed}
+use Rattle.promise_refusals.specs.Judgements.{whole-listed, with-listed, lowpass-listed, spec-design-listed, halfband-listed, gaussian-listed, gaussian-fitted-listed, rrc-listed, rrc-fitted-listed, channelizer-listed, channelizer-fitted-listed, biquad-listed, preemphasis-listed, butterworth-listed, shape-listed}
 
 -- ---- the low-pass, by the window's code
 pub lowpass-coded : (cutoff rate : Float) (c : WindowCode.Coded) (n : ℕ) → Listed (answered (Lowpass.outcomeOf (lowpassCoded cutoff rate c n)))
@@ -53,6 +59,22 @@ spec-bytes spec rate cap len = whole-listed 8 len (Lowpass.outcomeOf (specDesign
 
 pub channelizer-bytes : (m l : ℕ) (passband stopband a : Float) (len : ℕ) → Listed (answered (channelizerBytes m l passband stopband a len))
 channelizer-bytes m l passband stopband a len = whole-listed 8 len _ (channelizer-fitted-listed (Channelizer.channelizerLowpassOf m l passband stopband a) (len / 8) (channelizer-listed m l passband stopband a))
+
+-- ---- the low-pass whose record is kept, and the turns of its knob
+abbrev DesignListed : Designed → Type 0
+DesignListed d = Listed (answered (Lowpass.outcomeOf d))
+
+pub design-lowpass : (cutoff rate : Float) (window : ℕ) (beta : Float) (len : ℕ) → DesignListed (lowpassFor cutoff rate window beta len)
+unfolding reportOf listed
+design-lowpass cutoff rate window beta len = lowpass-has DesignListed tt (λ a b. tt) cutoff rate window beta len (λ w n. lowpass-listed cutoff rate w n)
+
+pub design-cutoff : (d : Design) (cutoff rate : Float) (len : ℕ) → DesignListed (cutoffFor d cutoff rate len)
+unfolding reportOf listed
+design-cutoff d cutoff rate len = cutoff-has DesignListed tt (λ a b. tt) d cutoff rate len (λ w i0 n. with-listed cutoff rate w n i0)
+
+pub design-beta : (d : Design) (beta : Float) (len : ℕ) → DesignListed (betaFor d beta len)
+unfolding reportOf listed
+design-beta d beta len = beta-has DesignListed tt (λ a b. tt) d beta len (λ fc n. lowpass-listed fc (whole 1) (Kaiser beta) n)
 
 -- ---- the half-band and the pulses
 pub halfband-bytes : (beta : Float) (len : ℕ) → Listed (answered (halfbandBytes beta len))

@@ -34,6 +34,7 @@ use Rattle.fir_length.specs.Kaiser.{betaOf, estimate, orderOf, lengthened, half
 use Rattle.fir_length.specs.declared.order.Order.{Order}
 use Rattle.fir_length.specs.declared.order.Order.the-variants as Order
 use Rattle.fir_delay.specs.Delay.{delayOf}
+use Rattle.fir_sinc.specs.Windows.{normOf}
 use Rattle.fir_sinc.specs.declared.window.Window.{Window}
 use Rattle.fir_sinc.specs.declared.window.Window.the-variants.{Kaiser}
 use Rattle.fir_lowpass.specs.Lowpass as Lowpass
@@ -73,21 +74,25 @@ whole-listed w len o l = either-way (λ (p : Outcome). Listed (answered p)) (eqb
 abbrev LowpassListed : Designed → Type 0
 LowpassListed d = Listed (answered (Lowpass.outcomeOf d))
 
+passed-listed : (v : Verdict) (d : Designed) → Listed v → LowpassListed d → LowpassListed (Lowpass.wherePassed v d)
+passed-listed Done d l x = x
+passed-listed (Refused why) d l x = l
+
 module _ (cutoff rate : Float) (w : Window) (n : ℕ) where
+  judgement-listed : Listed (Lowpass.judgementOf cutoff rate w n)
+  unfolding Lowpass.judgementOf reportOf listed
+  judgement-listed =
+      let way = either-way Listed in
+      way (positive rate) _ _ (way (Lowpass.inside (cutoff ⊘ rate)) _ _ (way (Lowpass.countTaken n) _ _ (way (Lowpass.betaTaken w) _ _ tt tt) tt) tt) tt
+
+  -- whatever its window is divided by
+  pub with-listed : (i0 : Float) → LowpassListed (Lowpass.lowpassWith cutoff rate w i0 n)
+  unfolding Lowpass.lowpassWith Lowpass.designOf reportOf listed
+  with-listed i0 = passed-listed (Lowpass.judgementOf cutoff rate w n) _ judgement-listed (either-way LowpassListed (Lowpass.usable (Lowpass.divisorOf (cutoff ⊘ rate) w i0 n)) _ _ tt tt)
+
   pub lowpass-listed : LowpassListed (Lowpass.lowpassOf cutoff rate w n)
-  unfolding Lowpass.lowpassOf reportOf listed
-  lowpass-listed =
-      let fc = cutoff ⊘ rate in
-      let way = either-way LowpassListed in
-      way (positive rate) _ _
-      (way (Lowpass.inside fc) _ _
-      (way (Lowpass.countTaken n) _ _
-      (way (Lowpass.betaTaken w) _ _
-      (way (Lowpass.usable (Lowpass.divisorOf fc w n)) _ _ tt tt)
-      tt)
-      tt)
-      tt)
-      tt
+  unfolding Lowpass.lowpassOf
+  lowpass-listed = with-listed (normOf w)
 
 -- ---- Kaiser's lengths
 module _ (ripple transition rate : Float) where
@@ -221,10 +226,6 @@ unfolding reportOf listed
 edges-taps Done num l = either-way (λ (n : Length). Listed (ofLength n)) (Channelizer.countTaken num) _ _ tt tt
 edges-taps (Refused why) num l = l
 
-edges-lowpass : (v : Verdict) (d : Designed) → Listed v → LowpassListed d → LowpassListed (Channelizer.lowpassIn v d)
-edges-lowpass Done d l x = x
-edges-lowpass (Refused why) d l x = l
-
 pub channelizer-taps-listed : (m : ℕ) (passband stopband a : Float) → Listed (ofLength (Channelizer.channelizerTapsOf m passband stopband a))
 unfolding Channelizer.channelizerTapsOf reportOf listed
 channelizer-taps-listed m passband stopband a = either-way (λ (l : Length). Listed (ofLength l)) (Channelizer.channelsTaken m) _ _ (edges-taps (Channelizer.edgesOf passband stopband a) _ (edges-listed passband stopband a)) tt
@@ -239,7 +240,7 @@ channelizer-listed m l passband stopband a =
     let way = either-way LowpassListed in
     way (Channelizer.channelsTaken m) _ _
     (way (Channelizer.branchTaken l) _ _
-    (edges-lowpass (Channelizer.edgesOf passband stopband a) _ (edges-listed passband stopband a) (lowpass-listed ((passband ⊕ stopband) ⊘ (whole 2 ⊗ whole m)) (whole 1) (Kaiser (betaOf a)) (m * l)))
+    (passed-listed (Channelizer.edgesOf passband stopband a) _ (edges-listed passband stopband a) (lowpass-listed ((passband ⊕ stopband) ⊘ (whole 2 ⊗ whole m)) (whole 1) (Kaiser (betaOf a)) (m * l)))
     tt)
     tt
 

@@ -37,7 +37,7 @@ use Rattle.c_formats.specs.declared.element.Format.the-variants.{Q15}
 use Rattle.c_formats.specs.Formats.{widthOf, takesOf, patternOf, outsideOf}
 use Rattle.c_formats.specs.Conversions.{floats, lengthsOf, ConvertsBytes}
 use Rattle.c_formats.specs.ConversionLaws.{whole-elements}
-use Rattle.c_lowpass.specs.Codes.{windowOf}
+use Rattle.ticket_codes.specs.Codes.{windowOf}
 use Rattle.c_lowpass.specs.Lowpass.{lowpassBytes}
 use Rattle.c_lowpass.specs.Prototype.{channelizerBytes}
 use Rattle.c_lowpass.specs.Spec.{specBytes}

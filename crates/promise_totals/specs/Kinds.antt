@@ -9,10 +9,9 @@ use lib.Ieee.{Float, binary64, fits}
 use lib.Ieee.Fits.{cond-fits, mul-fits, div-fits, ofInt-fits}
 use Rattle.laws.specs.Binary64.{_⊘_, whole}
 use Rattle.math_exp.specs.ExpFits.{exp-fits}
-use Rattle.fir_sinc.specs.Windows.{normOf}
 use Rattle.fir_sinc.specs.Taps.{rawAt}
 use Rattle.fir_lowpass.specs.Lowpass as Lowpass
-use Rattle.fir_lowpass.specs.LowpassLaws.{ready-is, count-least, count-most}
+use Rattle.fir_lowpass.specs.LowpassLaws.{designed, ready-is, ready-with, count-least, count-most}
 use Rattle.fir_sinc.specs.declared.window.Window.{Window}
 use Rattle.fir_lowpass.specs.declared.lowpass.Lowpass.{Lowpass}
 use Rattle.fir_lowpass.specs.declared.lowpass.Designed.the-variants as Designed
@@ -34,42 +33,39 @@ lowpass-raw-fits : (fc : Float) (w : Window) (i0 : Float) (n i : ℕ) → T (fit
 unfolding rawAt
 lowpass-raw-fits fc w i0 n i = mul-fits binary64 _ _
 
-lowpass-tap-is : (l : Lowpass) → l .n ≤ 16777216 → (i : ℕ) → i < l .n → Lowpass.tapOf l i ≡ rawAt (l .fc) (l .window) (normOf (l .window)) (l .n) i ⊘ l .sum
-unfolding Lowpass.tapOf Lowpass.tapWith
+lowpass-tap-is : (l : Lowpass) → l .n ≤ 16777216 → (i : ℕ) → i < l .n → Lowpass.tapOf l i ≡ rawAt (l .fc) (l .window) (l .i0) (l .n) i ⊘ l .sum
+unfolding Lowpass.tapOf
 lowpass-tap-is l k i h = rw (le-ltb 16777216 (l .n) k, lt-ltb i (l .n) h)
-
-lowpass-with-fits : (l : Lowpass) (i0 : Float) (i : ℕ) → T (fits binary64 (Lowpass.tapWith l i0 i))
-unfolding Lowpass.tapWith
-lowpass-with-fits l i0 i = cond-fits binary64 (ltb 16777216 (l .n)) _ _ nought-fits (cond-fits binary64 (ltb i (l .n)) _ _ (div-fits binary64 _ _) nought-fits)
 
 pub lowpass-tap-fits : (l : Lowpass) (i : ℕ) → T (fits binary64 (Lowpass.tapOf l i))
 unfolding Lowpass.tapOf
-lowpass-tap-fits l i = lowpass-with-fits l (normOf (l .window)) i
+lowpass-tap-fits l i = cond-fits binary64 (ltb 16777216 (l .n)) _ _ nought-fits (cond-fits binary64 (ltb i (l .n)) _ _ (div-fits binary64 _ _) nought-fits)
 
-pub lowpass-normalised : (cutoff rate : Float) (w : Window) (n : ℕ) (l : Lowpass) → Lowpass.lowpassOf cutoff rate w n ≡ Designed.Ready l → Normalised (l .n) (l .sum) (Lowpass.tapOf l)
+-- whatever its window is divided by
+pub with-normalised : (cutoff rate : Float) (w : Window) (i0 : Float) (n : ℕ) (l : Lowpass) → Lowpass.lowpassWith cutoff rate w i0 n ≡ Designed.Ready l → Normalised (l .n) (l .sum) (Lowpass.tapOf l)
 unfolding Lowpass.divisorOf
-lowpass-normalised cutoff rate w n l e =
-    let a = ready-is cutoff rate w n l e in
-    let k : n ≤ 16777216 = count-most n (a .counted) in
+with-normalised cutoff rate w i0 n l e =
+    let a = ready-with cutoff rate w i0 n l e in
+    let counted = a .passes .counted in
+    let k : n ≤ 16777216 = count-most n counted in
     let fc = cutoff ⊘ rate in
-    let made : Lowpass = record { n = n; fc = fc; window = w; sum = Lowpass.divisorOf fc w n } in
     subst (λ (z : Lowpass). Normalised (z .n) (z .sum) (Lowpass.tapOf z)) (sym (a .is))
     (record {
-      raw = rawAt fc w (normOf w) n;
-      some = count-least n (a .counted);
+      raw = rawAt fc w i0 n;
+      some = count-least n counted;
       most = k;
-      fit = lowpass-raw-fits fc w (normOf w) n;
+      fit = lowpass-raw-fits fc w i0 n;
       sum = refl;
-      taps = lowpass-tap-is made k;
+      taps = lowpass-tap-is (designed fc w i0 n) k;
     })
 
 -- ---- the half-band, whose last divisor is the second sum
 unscaled-fits : (l : Lowpass) (n k : ℕ) → T (fits binary64 (Halfband.unscaled l n k))
-unfolding Halfband.unscaled Halfband.unscaledWith
-unscaled-fits l n k = cond-fits binary64 (Halfband.vanishes n k) _ _ nought-fits (lowpass-with-fits l (normOf (l .window)) _)
+unfolding Halfband.unscaled
+unscaled-fits l n k = cond-fits binary64 (Halfband.vanishes n k) _ _ nought-fits (lowpass-tap-fits l _)
 
 pub halfband-tap-fits : (d : HalfbandDesign) (i : ℕ) → T (fits binary64 (Halfband.tapOf d i))
-unfolding Halfband.tapOf Halfband.tapWith
+unfolding Halfband.tapOf
 halfband-tap-fits d i = cond-fits binary64 (ltb i (d .n)) _ _ (div-fits binary64 _ _) nought-fits
 
 pub halfband-normalised : (beta : Float) (n : ℕ) (d : HalfbandDesign) → Halfband.halfbandOf beta n ≡ HalfbandDesigned.Ready d → Normalised (d .n) (d .sum) (Halfband.tapOf d)

@@ -44,7 +44,7 @@ use Rattle.fir_gaussian.specs.Gaussian as Gaussian
 use Rattle.fir_channelizer.specs.Channelizer as Channelizer
 use Rattle.c_formats.specs.declared.element.Format.the-variants.{Q15}
 use Rattle.c_formats.specs.Conversions.{ConvertsBytes}
-use Rattle.c_lowpass.specs.Codes.{windowOf}
+use Rattle.ticket_codes.specs.Codes.{windowOf}
 use Rattle.c_lowpass.specs.Lowpass.{lowpassBytes}
 use Rattle.c_lowpass.specs.Prototype.{channelizerBytes}
 use Rattle.c_pulses.specs.Buffers.{halfbandBytes, gaussianBytes}
@@ -205,7 +205,7 @@ abbrev pub halfbandTicket : ℕ → Outcome
 halfbandTicket len = halfbandBytes (whole 0) len
 
 pub halfband-met : T (met (halfbandTicket 56))
-unfolding met all tabulate takes moved Halfband.halfbandOf Halfband.divisorOf Halfband.tapOf Lowpass.lowpassOf Lowpass.tapWith windowAt normOf seriesOf sqrtOf sinOf sumTo fact over positive floorOf absOf asFloat floorZ ofBits ofInt round add sub mul div lt le ne
+unfolding met all tabulate takes moved Halfband.halfbandOf Halfband.divisorOf Halfband.tapOf Lowpass.lowpassOf Lowpass.tapOf windowAt normOf seriesOf sqrtOf sinOf sumTo fact over positive floorOf absOf asFloat floorZ ofBits ofInt round add sub mul div lt le ne
 halfband-met = tt
 
 module _ (before : List ℕ) (e : length before ≡ 56) where

@@ -17,6 +17,7 @@ use Rattle.wire.specs.Writes.{wholeTaps}
 use Rattle.fir_length.specs.Kaiser.{betaOf}
 use Rattle.fir_length.specs.declared.order.Order.{Order}
 use Rattle.fir_length.specs.declared.order.Order.the-variants as Order
+use Rattle.fir_sinc.specs.Windows.{normOf}
 use Rattle.fir_sinc.specs.declared.window.Window.{Window}
 use Rattle.fir_sinc.specs.declared.window.Window.the-variants.{Kaiser}
 use Rattle.fir_lowpass.specs.Lowpass as Lowpass
@@ -34,13 +35,16 @@ use Rattle.fir_channelizer.specs.Channelizer as Channelizer
 use Rattle.c_lowpass.specs.Lowpass.{lowpassBytes}
 use Rattle.c_lowpass.specs.Prototype.{channelizerBytes}
 use Rattle.c_lowpass.specs.Spec.{specBytes}
-use Rattle.c_lowpass.specs.declared.codes.Coded.{Coded}
-use Rattle.c_lowpass.specs.declared.codes.Coded.the-variants.{Known, Unknown}
+use Rattle.ticket_codes.specs.declared.Coded.{Coded}
+use Rattle.ticket_codes.specs.declared.Coded.the-variants.{Known, Unknown}
+use Rattle.c_retune.specs.Designs.{lowpassFor, cutoffFor, betaFor}
+use Rattle.c_retune.specs.DesignsLaws.{lowpass-has, cutoff-has, beta-has}
+use Rattle.c_retune.specs.declared.record.Design.{Design}
 use Rattle.c_pulses.specs.Buffers.{halfbandBytes, gaussianBytes}
 use Rattle.promise_refusals.specs.Listed.{Listed, never-zero}
 use Rattle.promise_refusals.specs.Exports as Exports
 use Rattle.promise_totals.specs.Normalised.{Normalised}
-use Rattle.promise_totals.specs.Kinds.{lowpass-normalised, lowpass-tap-fits, halfband-normalised, halfband-tap-fits, gaussian-normalised, gaussian-tap-fits}
+use Rattle.promise_totals.specs.Kinds.{with-normalised, lowpass-tap-fits, halfband-normalised, halfband-tap-fits, gaussian-normalised, gaussian-tap-fits}
 
 -- ---- what is shown
 -- of an accepted ticket the taps, each an f64
@@ -66,12 +70,17 @@ whole-made : (len : ℕ) (o : Outcome) → Made o → Made (wholeTaps len o)
 whole-made len o x = either-way Made (eqb (len % 8) 0) o (Outcome.Refused (Refusal.Length (len - len % 8) len)) x tt
 
 -- ---- the low-pass
-pub lowpass-made : (cutoff rate : Float) (w : Window) (n : ℕ) → Made (Lowpass.outcomeOf (Lowpass.lowpassOf cutoff rate w n))
-lowpass-made cutoff rate w n = go (Lowpass.lowpassOf cutoff rate w n) refl
+-- whatever its window is divided by
+pub with-made : (cutoff rate : Float) (w : Window) (i0 : Float) (n : ℕ) → Made (Lowpass.outcomeOf (Lowpass.lowpassWith cutoff rate w i0 n))
+with-made cutoff rate w i0 n = go (Lowpass.lowpassWith cutoff rate w i0 n) refl
   where
-    go : (d : Designed) → Lowpass.lowpassOf cutoff rate w n ≡ d → Made (Lowpass.outcomeOf d)
-    go (Designed.Ready l) e = (lowpass-normalised cutoff rate w n l e, lowpass-tap-fits l)
+    go : (d : Designed) → Lowpass.lowpassWith cutoff rate w i0 n ≡ d → Made (Lowpass.outcomeOf d)
+    go (Designed.Ready l) e = (with-normalised cutoff rate w i0 n l e, lowpass-tap-fits l)
     go (Designed.Refused why) e = tt
+
+pub lowpass-made : (cutoff rate : Float) (w : Window) (n : ℕ) → Made (Lowpass.outcomeOf (Lowpass.lowpassOf cutoff rate w n))
+unfolding Lowpass.lowpassOf
+lowpass-made cutoff rate w n = with-made cutoff rate w (normOf w) n
 
 pub lowpass-bytes-sound : (cutoff rate : Float) (c : Coded) (len : ℕ) → Sound (lowpassBytes cutoff rate c len)
 lowpass-bytes-sound cutoff rate c len = sound (lowpassBytes cutoff rate c len) (go c) (Exports.lowpass-bytes cutoff rate c len)
@@ -79,6 +88,19 @@ lowpass-bytes-sound cutoff rate c len = sound (lowpassBytes cutoff rate c len) (
     go : (c : Coded) → Made (lowpassBytes cutoff rate c len)
     go (Known w) = whole-made len _ (lowpass-made cutoff rate w (len / 8))
     go Unknown = tt
+
+-- ---- the low-pass whose record is kept, and the turns of its knob, of any record
+abbrev DesignMade : Designed → Type 0
+DesignMade d = Made (Lowpass.outcomeOf d)
+
+pub design-lowpass-sound : (cutoff rate : Float) (window : ℕ) (beta : Float) (len : ℕ) → Sound (Lowpass.outcomeOf (lowpassFor cutoff rate window beta len))
+design-lowpass-sound cutoff rate window beta len = sound (Lowpass.outcomeOf (lowpassFor cutoff rate window beta len)) (lowpass-has DesignMade tt (λ a b. tt) cutoff rate window beta len (λ w n. lowpass-made cutoff rate w n)) (Exports.design-lowpass cutoff rate window beta len)
+
+pub design-cutoff-sound : (d : Design) (cutoff rate : Float) (len : ℕ) → Sound (Lowpass.outcomeOf (cutoffFor d cutoff rate len))
+design-cutoff-sound d cutoff rate len = sound (Lowpass.outcomeOf (cutoffFor d cutoff rate len)) (cutoff-has DesignMade tt (λ a b. tt) d cutoff rate len (λ w i0 n. with-made cutoff rate w i0 n)) (Exports.design-cutoff d cutoff rate len)
+
+pub design-beta-sound : (d : Design) (beta : Float) (len : ℕ) → Sound (Lowpass.outcomeOf (betaFor d beta len))
+design-beta-sound d beta len = sound (Lowpass.outcomeOf (betaFor d beta len)) (beta-has DesignMade tt (λ a b. tt) d beta len (λ fc n. lowpass-made fc (whole 1) (Kaiser beta) n)) (Exports.design-beta d beta len)
 
 -- ---- the specification
 pub spec-made : (spec : DesignSpec) (rate : Float) (cap len : ℕ) → Made (Lowpass.outcomeOf (specDesignOf spec rate cap len))
@@ -115,7 +137,7 @@ pub gaussian-bytes-sound : (bt : Float) (sps span len : ℕ) → Sound (gaussian
 gaussian-bytes-sound bt sps span len = sound (gaussianBytes bt sps span len) (whole-made len _ (gaussian-made bt sps span (len / 8))) (Exports.gaussian-bytes bt sps span len)
 
 -- ---- the channelizer's prototype
-edges-made : (v : Verdict) (d : Designed) → Made (Lowpass.outcomeOf d) → Made (Lowpass.outcomeOf (Channelizer.lowpassIn v d))
+edges-made : (v : Verdict) (d : Designed) → Made (Lowpass.outcomeOf d) → Made (Lowpass.outcomeOf (Lowpass.wherePassed v d))
 edges-made Verdict.Done d x = x
 edges-made (Verdict.Refused why) d x = tt
 

@@ -16,16 +16,19 @@ use Rattle.fmt_q15.specs.Q15.{takes}
 use Rattle.verdict.specs.Outcome.{Outcome}
 use Rattle.verdict.specs.Outcome as Outcome
 use Rattle.fir_spec.specs.declared.DesignSpec.{DesignSpec}
-use Rattle.c_lowpass.specs.Codes.{windowOf}
+use Rattle.ticket_codes.specs.Codes.{windowOf}
 use Rattle.c_lowpass.specs.Lowpass.{lowpassBytes}
 use Rattle.c_lowpass.specs.Prototype.{channelizerBytes}
+use Rattle.fir_lowpass.specs.Lowpass.{outcomeOf}
+use Rattle.c_retune.specs.Designs.{lowpassFor, cutoffFor, betaFor}
+use Rattle.c_retune.specs.declared.record.Design.{Design}
 use Rattle.c_pulses.specs.Buffers.{halfbandBytes, gaussianBytes}
 use Rattle.verdict.specs.Reports.{outcomeReport}
 use Rattle.c_lowpass.specs.Spec.{specBytes}
 use Rattle.wire.specs.Writes.{Writes, written}
 use Rattle.promise_totals.specs.Bounds.{TapTotal, Q15Total, unsaturated}
 use Rattle.promise_totals.specs.Normalised.{Promised, normalised-promised}
-use Rattle.promise_totals.specs.Sound.{Sound, lowpass-bytes-sound, spec-bytes-sound, halfband-bytes-sound, gaussian-bytes-sound, channelizer-bytes-sound}
+use Rattle.promise_totals.specs.Sound.{Sound, lowpass-bytes-sound, design-lowpass-sound, design-cutoff-sound, design-beta-sound, spec-bytes-sound, halfband-bytes-sound, gaussian-bytes-sound, channelizer-bytes-sound}
 
 -- ---- the statement, of an export's report r and of its buffer afterwards
 -- "accepted": the report's number is 0, none of the refusals'
@@ -67,6 +70,16 @@ of-writes {o} {before} s w = by-writes Totals w (sound-totals o before s)
 -- `pel_lowpass`
 pub lowpass-written : (cutoff rate : Float) (code : ℕ) (beta : Float) (before after : List ℕ) (r : Report) → Writes floatBytes (lowpassBytes cutoff rate (windowOf code beta) (length before)) before r after → Totals r after
 lowpass-written cutoff rate code beta before after r w = of-writes (lowpass-bytes-sound cutoff rate (windowOf code beta) (length before)) w
+
+-- `pel_design_lowpass`, `pel_design_new_cutoff` and `pel_design_new_beta`
+pub design-lowpass-written : (cutoff rate : Float) (window : ℕ) (beta : Float) (before after : List ℕ) (r : Report) → Writes floatBytes (outcomeOf (lowpassFor cutoff rate window beta (length before))) before r after → Totals r after
+design-lowpass-written cutoff rate window beta before after r w = of-writes (design-lowpass-sound cutoff rate window beta (length before)) w
+
+pub design-cutoff-written : (d : Design) (cutoff rate : Float) (before after : List ℕ) (r : Report) → Writes floatBytes (outcomeOf (cutoffFor d cutoff rate (length before))) before r after → Totals r after
+design-cutoff-written d cutoff rate before after r w = of-writes (design-cutoff-sound d cutoff rate (length before)) w
+
+pub design-beta-written : (d : Design) (beta : Float) (before after : List ℕ) (r : Report) → Writes floatBytes (outcomeOf (betaFor d beta (length before))) before r after → Totals r after
+design-beta-written d beta before after r w = of-writes (design-beta-sound d beta (length before)) w
 
 -- `pel_spec_design`
 pub spec-written : (spec : DesignSpec) (rate : Float) (m : ℕ) (before after : List ℕ) (r : Report) → Writes floatBytes (specBytes spec rate m (length before)) before r after → Totals r after

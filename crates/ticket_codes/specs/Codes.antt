@@ -1,9 +1,11 @@
 -- The windows by their codes. Definitions only.
 use Prim.Native.Nat.{ℕ, zero, suc}
 use lib.Ieee.{Float}
+use Rattle.laws.specs.Binary64.{whole}
+use Rattle.fir_sinc.specs.declared.window.Window.{Window}
 use Rattle.fir_sinc.specs.declared.window.Window.the-variants.{Hann, Hamming, Blackman, Kaiser}
-use Rattle.c_lowpass.specs.declared.codes.Coded.{Coded}
-use Rattle.c_lowpass.specs.declared.codes.Coded.the-variants.{Known, Unknown}
+use Rattle.ticket_codes.specs.declared.Coded.{Coded}
+use Rattle.ticket_codes.specs.declared.Coded.the-variants.{Known, Unknown}
 
 -- 0, 1, 2 and 3; only Kaiser's window takes beta
 unfoldable pub windowOf : ℕ → Float → Coded
@@ -12,3 +14,17 @@ windowOf (suc zero) beta = Known Hamming
 windowOf (suc (suc zero)) beta = Known Blackman
 windowOf (suc (suc (suc zero))) beta = Known (Kaiser beta)
 windowOf (suc (suc (suc (suc code)))) beta = Unknown
+
+-- a window's code
+unfoldable pub codeOf : Window → ℕ
+codeOf Hann = 0
+codeOf Hamming = 1
+codeOf Blackman = 2
+codeOf (Kaiser beta) = 3
+
+-- and its beta, 0 where it has none
+unfoldable pub shapeOf : Window → Float
+shapeOf Hann = whole 0
+shapeOf Hamming = whole 0
+shapeOf Blackman = whole 0
+shapeOf (Kaiser beta) = beta

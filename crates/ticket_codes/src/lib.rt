@@ -1,7 +1,7 @@
-// The windows by their codes, since an enum is no argument of a C function.
+// What the numbers of a ticket stand for: the windows by their codes, since an enum is no argument of a C function.
 use fir_sinc::window::Window;
 ghost use mathlib.Core.Path.{_≡_};
-ghost use Rattle.c_lowpass.specs.Codes.{windowOf};
+ghost use Rattle.ticket_codes.specs.Codes.{windowOf, codeOf, shapeOf};
 
 // A window, or a code that none has.
 pub enum Coded {
@@ -10,7 +10,7 @@ pub enum Coded {
 }
 
 // 0 Hann, 1 Hamming, 2 Blackman, 3 Kaiser with this beta, which the others leave out.
-pub(crate) fn window_of(code: u64, beta: f64) -> Coded
+pub fn window_of(code: u64, beta: f64) -> Coded
     ensures { λ r. ⌜ r ≡ windowOf code beta ⌝ }
 {
     match code {
@@ -19,5 +19,29 @@ pub(crate) fn window_of(code: u64, beta: f64) -> Coded
         2 => Coded::Known(Window::Blackman),
         3 => Coded::Known(Window::Kaiser(beta)),
         _ => Coded::Unknown,
+    }
+}
+
+// The code of a window.
+pub fn code_of(w: Window) -> u64
+    ensures { λ r. ⌜ r ≡ codeOf w ⌝ }
+{
+    match w {
+        Window::Hann => 0,
+        Window::Hamming => 1,
+        Window::Blackman => 2,
+        Window::Kaiser(_) => 3,
+    }
+}
+
+// The beta of a window, 0 where it has none.
+pub fn shape_of(w: Window) -> f64
+    ensures { λ r. ⌜ r ≡ shapeOf w ⌝ }
+{
+    match w {
+        Window::Hann => 0.0,
+        Window::Hamming => 0.0,
+        Window::Blackman => 0.0,
+        Window::Kaiser(beta) => beta,
     }
 }

@@ -1,12 +1,12 @@
--- `c_lowpass::codes::window_of` meets its contract, a code at a time. Assumes nothing.
+-- `ticket_codes::window_of` meets its contract, a code at a time. Assumes nothing.
 use mathlib.Core.Path.{_≡_, refl}
 use Prim.Native.Nat.{ℕ, zero, suc, _<_}
 use native.Mathlib.Omega.{arith}
 use lib.Ieee.{Float}
-use Rattle.c_lowpass.specs.Codes.{windowOf}
-use Rattle.c_lowpass.specs.declared.codes.Coded.the-variants.{Unknown}
-use Rattle.c_lowpass.proofs.codes.window_of.Statement.{statement}
-use Rattle.c_lowpass.proofs.codes.window_of.Tie as tie
+use Rattle.ticket_codes.specs.Codes.{windowOf}
+use Rattle.ticket_codes.specs.declared.Coded.the-variants.{Unknown}
+use Rattle.ticket_codes.proofs.window_of.Statement.{statement}
+use Rattle.ticket_codes.proofs.window_of.Tie as tie
 
 returns : tie.Need-returns
 unfolding windowOf

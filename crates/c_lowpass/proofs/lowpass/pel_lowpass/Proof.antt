@@ -8,10 +8,10 @@ use Rattle.fir_sinc.specs.declared.window.Window.{Window}
 use Rattle.verdict.specs.Outcome.{Outcome}
 use Rattle.fir_lowpass.specs.Lowpass.{lowpassOf, outcomeOf}
 use Rattle.c_lowpass.specs.Lowpass.{lowpassBytes}
-use Rattle.fir_lowpass.specs.LowpassLaws.{is-design, lowpass-count}
+use Rattle.fir_lowpass.specs.LowpassLaws.{lowpass-count}
 use Rattle.wire.specs.WritesLaws.{room, leaves, writes-same, leaves-part, writes-whole}
-use Rattle.c_lowpass.proofs.FitsLaws.{fits-lowpass}
-use Rattle.c_lowpass.specs.declared.codes.Coded.{Coded}
+use Rattle.ticket_taps.specs.FitsLaws.{fits-lowpass}
+use Rattle.ticket_codes.specs.declared.Coded.{Coded}
 use Rattle.c_lowpass.proofs.lowpass.pel_lowpass.Statement.{statement}
 use Rattle.c_lowpass.proofs.lowpass.pel_lowpass.Tie as tie
 
@@ -76,7 +76,7 @@ returns-2 c =
     let k = p .before .before .before .before in
     let start = k .before .before .before .before in
     let known = ap (by-code start) (sym (k .coded .given .1) ∙ k .before .before .window-of .ensures) in
-    writes-same known (writes-whole 8 (len start) (outcome start (k .coded .given .0 .0)) (p .before .before .if1 .left) (ap outcomeOf (is-design (p .prepare .ensures))) (c .before .before .write-lowpass .ensures))
+    writes-same known (writes-whole 8 (len start) (outcome start (k .coded .given .0 .0)) (p .before .before .if1 .left) (ap outcomeOf (p .prepare .ensures .is)) (c .before .before .write-lowpass .ensures))
 
 returns-3 : tie.Need-returns-3
 returns-3 c =

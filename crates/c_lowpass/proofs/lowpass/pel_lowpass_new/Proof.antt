@@ -5,7 +5,7 @@ use Rattle.fir_lowpass.specs.Lowpass.{outcomeOf}
 use Rattle.verdict.specs.Reports.{outcomeReport}
 use Rattle.c_lowpass.specs.Lowpass.{lowpassCoded}
 use Rattle.fir_lowpass.specs.declared.lowpass.Designed.{Designed}
-use Rattle.c_lowpass.specs.declared.codes.Coded.{Coded}
+use Rattle.ticket_codes.specs.declared.Coded.{Coded}
 use Rattle.c_lowpass.proofs.lowpass.pel_lowpass_new.Statement.{statement}
 use Rattle.c_lowpass.proofs.lowpass.pel_lowpass_new.Tie as tie
 

@@ -5,12 +5,11 @@ use Prim.Native.Nat.{ℕ, _/_}
 use lib.ListN.{length}
 use Rattle.verdict.specs.Outcome.{Outcome}
 use Rattle.fir_lowpass.specs.Lowpass.{outcomeOf}
-use Rattle.fir_lowpass.specs.LowpassLaws.{is-design}
 use Rattle.fir_lowpass.specs.declared.lowpass.Designed.{Designed}
 use Rattle.fir_channelizer.specs.Channelizer.{channelizerLowpassOf, fittedOf}
 use Rattle.fir_channelizer.specs.ChannelizerLaws.{channelizer-count}
 use Rattle.wire.specs.WritesLaws.{room, leaves-part, writes-whole}
-use Rattle.c_lowpass.proofs.FitsLaws.{fits-lowpass}
+use Rattle.ticket_taps.specs.FitsLaws.{fits-lowpass}
 use borrow.Author.Needs.{needs}
 use Rattle.c_lowpass.proofs.prototype.pel_channelizer_prototype.Statement.{statement}
 use Rattle.c_lowpass.proofs.prototype.pel_channelizer_prototype.Tie as tie
@@ -58,7 +57,7 @@ returns-2 : tie.Need-returns-2
 returns-2 c =
     let p = c .before .before .before .before .before .before in
     let start = p .before .before .before .before in
-    writes-whole 8 (len start) (outcome start) (p .before .before .if1 .left) (ap outcomeOf (is-design (p .fitted .ensures))) (c .before .before .write-lowpass .ensures)
+    writes-whole 8 (len start) (outcome start) (p .before .before .if1 .left) (ap outcomeOf (p .fitted .ensures .is)) (c .before .before .write-lowpass .ensures)
 
 pub pel-channelizer-prototype-spec : {M : Type 1} → statement M
 pel-channelizer-prototype-spec =

@@ -4,12 +4,12 @@ use borrow.Author.Needs.{needs}
 use Rattle.verdict.specs.declared.Report.{Report}
 use Rattle.fir_lowpass.specs.declared.lowpass.Designed.{Designed}
 use Rattle.verdict.specs.Reports.{outcomeReport}
-use Rattle.c_lowpass.specs.Sources.{ofLowpass}
+use Rattle.fir_lowpass.specs.Lowpass.{outcomeOf}
 use Rattle.c_lowpass.proofs.told.told_lowpass.Statement.{statement}
 use Rattle.c_lowpass.proofs.told.told_lowpass.Tie as tie
 
 abbrev told : Designed → Report
-told d = outcomeReport (ofLowpass d)
+told d = outcomeReport (outcomeOf d)
 
 enum-known-designed : tie.Need-enum-known-designed
 enum-known-designed c = search needs

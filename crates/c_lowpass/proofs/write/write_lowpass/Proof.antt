@@ -1,12 +1,6 @@
 -- `c_lowpass::write::write_lowpass` meets its contract, a design and a refusal. Assumes nothing.
-use mathlib.Core.Path.{ap, _∙_}
-use Prim.Native.Nat.{_/_}
-use lib.ListN.{length}
-use lib.Ieee.{Float}
-use Rattle.laws.specs.Chunks.{chunked}
-use Rattle.wire.specs.Bytes.{floatBytes}
-use Rattle.fir_lowpass.specs.Lowpass.{tapWith, tapOf}
-use Rattle.c_lowpass.specs.Sources.{ofLowpass}
+use mathlib.Core.Path.{ap}
+use Rattle.fir_lowpass.specs.Lowpass.{outcomeOf}
 use Rattle.wire.specs.WritesLaws.{leaves, fills-room}
 use borrow.Author.Needs.{needs}
 use Rattle.c_lowpass.proofs.write.write_lowpass.Statement.{statement}
@@ -31,18 +25,15 @@ same-length : tie.Need-same-length
 same-length c = search needs
 
 returns : tie.Need-returns
-unfolding tapOf
 returns c =
     let t = c .before .before .before .before .before .before in
     let g = t .designed .given in
     let s = t .before .before .before .before in
     let d = g .0 .0 in
-    let a = s .args .out .now in
-    fills-room (ap ofLowpass (g .1)) (c .accepted .ensures) (s .pre .room)
-    (c .before .before .before .put-taps .ensures (s .pre .raws d (g .1)) ∙ ap (λ (z : Float). chunked 8 (length a / 8) (λ i. floatBytes (tapWith d z i)) a) (s .pre .normed d (g .1)))
+    fills-room (ap outcomeOf (g .1)) (c .accepted .ensures) (s .pre .room) (c .before .before .before .put-taps .ensures (s .pre .raws d (g .1)))
 
 returns-2 : tie.Need-returns-2
-returns-2 c = leaves (ap ofLowpass (c .before .before .designed2 .given .1)) (c .refused .ensures)
+returns-2 c = leaves (ap outcomeOf (c .before .before .designed2 .given .1)) (c .refused .ensures)
 
 pub write-lowpass-spec : {M : Type 1} → statement M
 write-lowpass-spec =

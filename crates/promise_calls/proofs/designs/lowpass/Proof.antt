@@ -1,5 +1,5 @@
 -- `promise_calls::designs::lowpass` meets its contract: what its export ensures, by demands 1 and 3. Assumes nothing.
-use Rattle.c_lowpass.specs.Codes.{windowOf}
+use Rattle.ticket_codes.specs.Codes.{windowOf}
 use Rattle.promise_refusals.specs.Exports.{lowpass-bytes}
 use Rattle.promise_refusals.specs.Kept.{filled-or-kept}
 use Rattle.promise_totals.specs.Written.{lowpass-written}

@@ -1,5 +1,5 @@
 -- `promise_calls::judgements::lowpass_new` meets its contract: what its export ensures, by demand 1. Assumes nothing.
-use Rattle.c_lowpass.specs.Codes.{windowOf}
+use Rattle.ticket_codes.specs.Codes.{windowOf}
 use Rattle.c_lowpass.specs.Lowpass.{lowpassCoded}
 use Rattle.fir_lowpass.specs.Lowpass.{outcomeOf}
 use Rattle.promise_refusals.specs.Exports.{lowpass-coded}

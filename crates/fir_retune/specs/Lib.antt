@@ -1,0 +1,4 @@
+pub mod Retune
+pub mod Operations
+pub mod RetuneLaws
+pub mod Lists
