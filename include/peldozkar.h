@@ -3,8 +3,8 @@
  * Link with libpeldozkar.a, which `make lib` writes; it is for x86-64 today. Each function is proved to give the value
  * that is said here for every argument, NaN, infinities, zeros of both signs, subnormal numbers and impossible counts
  * included; it allocates nothing, keeps nothing, calls nothing but memset and always returns. On the stack pel_lowpass,
- * pel_spec_design, pel_halfband, pel_gaussian and pel_channelizer_prototype take 9,120 bytes at most, the others under
- * 1,000; docs/FUNCTIONS.md has the bytes of each.
+ * pel_design_lowpass, pel_design_new_cutoff, pel_design_new_beta, pel_spec_design, pel_halfband, pel_gaussian and
+ * pel_channelizer_prototype take 9,120 bytes at most, the others under 1,000; docs/FUNCTIONS.md has the bytes of each.
  *
  * The bits are the same on every reader: each operation is rounded once to a double, to the nearest, ties to even. A
  * NaN's sign and payload are free.
@@ -28,8 +28,8 @@
 /* The version of this header and of the library that comes with it. */
 #define PEL_VERSION_MAJOR 0
 #define PEL_VERSION_MINOR 4
-#define PEL_VERSION_PATCH 0
-#define PEL_VERSION "0.4.0"
+#define PEL_VERSION_PATCH 1
+#define PEL_VERSION "0.4.1"
 
 #ifdef __cplusplus
 extern "C" {
@@ -164,6 +164,44 @@ pel_report pel_spec_num_taps(double cutoff, double transition, double attenuatio
 pel_report pel_spec_lowpass(double cutoff, double transition, double attenuation, double rate, uint64_t max_taps);
 pel_report pel_spec_design(double cutoff, double transition, double attenuation, double rate, uint64_t max_taps,
                            uint8_t *out, size_t bytes);
+
+/* ---- A low-pass whose knob is turned ------------------------------------------------------------ */
+
+/* The record of a low-pass, which the caller keeps from one turn to the next, copies as it likes, and needs to look
+ * into no more than it cares. */
+typedef struct {
+    uint64_t taps;   /* how many */
+    double fraction; /* the cutoff over the rate */
+    uint64_t window; /* PEL_HANN and so on */
+    double beta;     /* of PEL_KAISER, else 0 */
+    double series;   /* what the window is divided by: the series at beta, 1 for the other windows */
+    double sum;      /* what the taps are divided by */
+} pel_design;
+
+/* The record to keep from now on, and the report. */
+typedef struct {
+    pel_design design;
+    pel_report report;
+} pel_tuned;
+
+/* pel_lowpass, with the record of the design besides: the same report and the same bytes. Where it is refused the
+ * record is all zeros, which no design has. */
+pel_tuned pel_design_lowpass(double cutoff, double rate, uint64_t window, double beta, uint8_t *out, size_t bytes);
+
+/* Turns the knob: the low-pass of `design` with a new cutoff, given with its rate, or with a new beta, its taps in
+ * `out` in the same call. After any list of turns, refused ones included, a record that was designed is the one, bit
+ * for bit, that pel_design_lowpass gives for the numbers that were accepted last, and so are the taps: proved, for
+ * every list.
+ * Refused, in this order, with the record and `out` as they came:
+ *   7   (pel_design_new_beta) a window other than PEL_KAISER, before anything else
+ *   7   a window that has no code: a record that no design gave
+ *   8   bytes isn't a multiple of 8, both figures in bytes
+ *   8   the buffer isn't for as many taps as the record has: expected and given in taps
+ *   then as pel_lowpass: 1, 2, 6, 4, 10 for a new cutoff, 4, 10 for a new beta. 6, and 2 with (0, 1/2, fraction) for a
+ *   new beta, come only of a record that no design gave; such a record is answered by what it says.
+ * Example: from (1000, 8000, PEL_KAISER, 8) a new beta 6 gives what (1000, 8000, PEL_KAISER, 6) gives. */
+pel_tuned pel_design_new_cutoff(pel_design design, double cutoff, double rate, uint8_t *out, size_t bytes);
+pel_tuned pel_design_new_beta(pel_design design, double beta, uint8_t *out, size_t bytes);
 
 /* ---- Half-band filters ------------------------------------------------------------------------ */
 

@@ -427,6 +427,36 @@ def print_lowpass():
         yield "refused with 10: the taps add up to 0"
 
 
+def print_retune():
+    def tell(turn, to, taps):
+        def passed(f):
+            middle = F(len(taps) - 1, 2)
+            return abs(sum(t * cos(2 * PI * real(F(f, 8000) * (i - middle))) for i, t in enumerate(taps)))
+
+        shown = [show(passed(500), 3), show(passed(1000), 3), show(passed(1500), 3), show(passed(3000), 5)]
+        numbers = "passes {} of 500 Hz, {} of 1000, {} of 1500, {} of 3000".format(*shown)
+        yield f"{turn} {short(to):>4}: {numbers}"
+
+    # The numbers that were accepted last: a cutoff from one turn, a beta from another.
+    cutoff, beta = 1000, 5
+    yield from tell("cutoff", cutoff, lowpass(cutoff, 8000, kaiser(D(beta)), 31))
+    for turned in (800, 1200, 4000, 1500):
+        try:
+            yield from tell("cutoff", turned, lowpass(turned, 8000, kaiser(D(beta)), 31))
+            cutoff = turned
+        except Refused as refused:
+            smallest, largest, offered = map(short, refused.carried)
+            yield f"cutoff {offered}: refused with 2, it isn't between {smallest} and {largest}; the taps stay"
+            assert refused.number == 2
+    for turned in (2, 8, -1):
+        if turned < 0:
+            yield f"beta {turned}: refused with 4; the taps stay"
+            continue
+        beta = turned
+        yield from tell("beta  ", beta, lowpass(cutoff, 8000, kaiser(D(beta)), 31))
+    yield f"at the end cutoff {cutoff}, beta {beta}, the series at beta {show(bessel_i0(D(beta)), 4)}"
+
+
 def print_spec():
     ticket = 1000, 100, 60, 8000
     taps = spec(*ticket, 512, spec_taps(*ticket, 512))

@@ -15,7 +15,8 @@
 //! # }
 //! ```
 //!
-//! Or by what it has to do, with Kaiser's formulas finding the number of taps: [`Spec`].
+//! Or by what it has to do, with Kaiser's formulas finding the number of taps: [`Spec`]. Where a knob is turned, for
+//! the cutoff or for beta, [`Lowpass`] keeps the record of the design.
 //!
 //! # Filled or refused
 //!
@@ -35,7 +36,7 @@
 //! where it is upward, 146 of the 147 taps of a specification are others. Status flags may be raised: a low-pass of one
 //! tap raises "invalid".
 //!
-//! On the stack the exports behind [`lowpass`], [`Spec::design`], [`halfband`], [`gaussian`] and
+//! On the stack the exports behind [`lowpass`], [`Lowpass`], [`Spec::design`], [`halfband`], [`gaussian`] and
 //! [`channelizer_prototype`] take 9,120 bytes at most, the others under 1,000; the repository's `docs/FUNCTIONS.md` has
 //! the bytes of each.
 //!
@@ -78,6 +79,7 @@ mod kaiser;
 mod lowpass;
 mod pulses;
 pub mod raw;
+mod retune;
 mod sections;
 mod sys;
 mod windows;
@@ -92,5 +94,6 @@ pub use halfband::{halfband, halfband_len, halfband_new};
 pub use kaiser::{HalfSamples, Series, bessel_i0, delay, kaiser_beta, kaiserord};
 pub use lowpass::{Design, Spec, Window, lowpass, lowpass_new};
 pub use pulses::{Rrc, gaussian, gaussian_new, rrc, rrc_len, rrc_new};
+pub use retune::Lowpass;
 pub use sections::{Response, biquad_coefs, butterworth_sos, preemphasis_coefs};
 pub use windows::{Gain, Sample, Symmetry, blackman_harris, hann, kaiser, window_gain};

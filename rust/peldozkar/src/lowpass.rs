@@ -20,7 +20,7 @@ pub enum Window {
 
 impl Window {
     /// The code, and the beta, which counts for Kaiser's window alone.
-    const fn coded(self) -> (u64, f64) {
+    pub(crate) const fn coded(self) -> (u64, f64) {
         match self {
             Self::Hann => (raw::HANN, 0.0),
             Self::Hamming => (raw::HAMMING, 0.0),

@@ -22,13 +22,13 @@
 pub use crate::sys::{
     pel_bessel_i0, pel_biquad_coefs, pel_blackman_harris_f32, pel_blackman_harris_q15,
     pel_butterworth_sos, pel_ceil, pel_channelizer_lowpass, pel_channelizer_prototype,
-    pel_channelizer_taps, pel_channelizer_taps_per_branch, pel_cos, pel_delay, pel_exp, pel_fabs,
-    pel_floor, pel_gaussian, pel_gaussian_new, pel_halfband, pel_halfband_len, pel_halfband_new,
-    pel_hann_f32, pel_hann_q15, pel_kaiser_beta, pel_kaiser_f32, pel_kaiser_q15, pel_kaiserord,
-    pel_lowpass, pel_lowpass_new, pel_pow04, pel_preemphasis_coefs, pel_q14_from_f64,
-    pel_q15_from_f64, pel_q15_tap, pel_rrc, pel_rrc_len, pel_rrc_new, pel_sin, pel_spec_design,
-    pel_spec_lowpass, pel_spec_num_taps, pel_sqrt, pel_to_f32, pel_to_f32_sos, pel_to_q14,
-    pel_to_q15, pel_window_gain,
+    pel_channelizer_taps, pel_channelizer_taps_per_branch, pel_cos, pel_delay, pel_design_lowpass,
+    pel_design_new_beta, pel_design_new_cutoff, pel_exp, pel_fabs, pel_floor, pel_gaussian,
+    pel_gaussian_new, pel_halfband, pel_halfband_len, pel_halfband_new, pel_hann_f32, pel_hann_q15,
+    pel_kaiser_beta, pel_kaiser_f32, pel_kaiser_q15, pel_kaiserord, pel_lowpass, pel_lowpass_new,
+    pel_pow04, pel_preemphasis_coefs, pel_q14_from_f64, pel_q15_from_f64, pel_q15_tap, pel_rrc,
+    pel_rrc_len, pel_rrc_new, pel_sin, pel_spec_design, pel_spec_lowpass, pel_spec_num_taps,
+    pel_sqrt, pel_to_f32, pel_to_f32_sos, pel_to_q14, pel_to_q15, pel_window_gain,
 };
 
 /// `number`: the ticket is accepted. Every other number is a refusal, those included that are not named here: later
@@ -116,6 +116,34 @@ pub struct Report {
     pub count: u64,
     /// Accepted: a divisor, a factor, a beta, a sum, or a Q15 or Q14 number.
     pub value: f64,
+}
+
+/// The record of a low-pass whose knob is turned: `pel_design`. It is kept from one turn to the next.
+#[repr(C)]
+#[derive(Clone, Copy, Debug, Default, PartialEq)]
+pub struct Design {
+    /// The number of taps.
+    pub taps: u64,
+    /// The cutoff over the rate.
+    pub fraction: f64,
+    /// The code of the window.
+    pub window: u64,
+    /// Kaiser's beta, 0 for the other windows.
+    pub beta: f64,
+    /// What the window is divided by: the series at beta, 1 for the other windows.
+    pub series: f64,
+    /// What the taps are divided by.
+    pub sum: f64,
+}
+
+/// What a turn of the knob answers: `pel_tuned`.
+#[repr(C)]
+#[derive(Clone, Copy, Debug, Default, PartialEq)]
+pub struct Tuned {
+    /// The record to keep from now on.
+    pub design: Design,
+    /// The report.
+    pub report: Report,
 }
 
 /// What a window does: `pel_gain_report`. A field that doesn't apply is 0.

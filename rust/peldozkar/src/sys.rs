@@ -9,10 +9,10 @@
 
 use core::slice;
 
-use crate::raw::{GainReport, Report};
+use crate::raw::{Design, GainReport, Report, Tuned};
 
 mod border {
-    use super::{GainReport, Report};
+    use super::{Design, GainReport, Report, Tuned};
 
     #[link(name = "peldozkar", kind = "static")]
     unsafe extern "C" {
@@ -115,6 +115,27 @@ mod border {
             out: *mut u8,
             bytes: usize,
         ) -> Report;
+        pub unsafe fn pel_design_lowpass(
+            cutoff: f64,
+            rate: f64,
+            window: u64,
+            beta: f64,
+            out: *mut u8,
+            bytes: usize,
+        ) -> Tuned;
+        pub unsafe fn pel_design_new_cutoff(
+            design: Design,
+            cutoff: f64,
+            rate: f64,
+            out: *mut u8,
+            bytes: usize,
+        ) -> Tuned;
+        pub unsafe fn pel_design_new_beta(
+            design: Design,
+            beta: f64,
+            out: *mut u8,
+            bytes: usize,
+        ) -> Tuned;
         pub unsafe fn pel_spec_design(
             cutoff: f64,
             transition: f64,
@@ -225,10 +246,10 @@ pub use border::{
 /// A function that fills a buffer: the C function with its pointer and length as one slice. Inlined, so that a
 /// caller in another crate calls the C function itself.
 macro_rules! filling {
-    ($($(#[$doc:meta])* $name:ident($($argument:ident: $kind:ty),*);)*) => {$(
+    ($($(#[$doc:meta])* $name:ident($($argument:ident: $kind:ty),*) -> $answer:ty;)*) => {$(
         $(#[$doc])*
         #[inline]
-        pub fn $name($($argument: $kind,)* out: &mut [u8]) -> Report {
+        pub fn $name($($argument: $kind,)* out: &mut [u8]) -> $answer {
             // SAFETY: `out` is so many writable bytes that nobody else uses, at a pointer that isn't null.
             unsafe { border::$name($($argument,)* out.as_mut_ptr(), out.len()) }
         }
@@ -237,37 +258,43 @@ macro_rules! filling {
 
 filling! {
     /// The taps of a low-pass.
-    pel_lowpass(cutoff: f64, rate: f64, window: u64, beta: f64);
+    pel_lowpass(cutoff: f64, rate: f64, window: u64, beta: f64) -> Report;
+    /// The taps of a low-pass, and its record.
+    pel_design_lowpass(cutoff: f64, rate: f64, window: u64, beta: f64) -> Tuned;
+    /// The record with a new cutoff, given with its rate, and the taps.
+    pel_design_new_cutoff(design: Design, cutoff: f64, rate: f64) -> Tuned;
+    /// The record with a new beta, and the taps.
+    pel_design_new_beta(design: Design, beta: f64) -> Tuned;
     /// The taps of a specification's low-pass.
-    pel_spec_design(cutoff: f64, transition: f64, attenuation: f64, rate: f64, max_taps: u64);
+    pel_spec_design(cutoff: f64, transition: f64, attenuation: f64, rate: f64, max_taps: u64) -> Report;
     /// The taps of a half-band filter.
-    pel_halfband(beta: f64);
+    pel_halfband(beta: f64) -> Report;
     /// The taps of a Gaussian pulse.
-    pel_gaussian(bt: f64, samples: u64, span: u64);
+    pel_gaussian(bt: f64, samples: u64, span: u64) -> Report;
     /// The taps of a root-raised-cosine pulse.
-    pel_rrc(rolloff: f64, samples: u64, span: u64);
+    pel_rrc(rolloff: f64, samples: u64, span: u64) -> Report;
     /// The taps of a channelizer's prototype.
     pel_channelizer_prototype(
         channels: u64, branch: u64, passband: f64, stopband: f64, attenuation: f64
-    );
+    ) -> Report;
     /// One second-order section.
-    pel_biquad_coefs(response: u64, centre: f64, q: f64, rate: f64);
+    pel_biquad_coefs(response: u64, centre: f64, q: f64, rate: f64) -> Report;
     /// The sections of a Butterworth filter.
-    pel_butterworth_sos(response: u64, order: u64, cutoff: f64, rate: f64);
+    pel_butterworth_sos(response: u64, order: u64, cutoff: f64, rate: f64) -> Report;
     /// First-order pre-emphasis.
-    pel_preemphasis_coefs(tau: f64, rate: f64);
+    pel_preemphasis_coefs(tau: f64, rate: f64) -> Report;
     /// Hann's window as floats.
-    pel_hann_f32(symmetry: u64);
+    pel_hann_f32(symmetry: u64) -> Report;
     /// Hann's window as Q15 numbers.
-    pel_hann_q15(symmetry: u64);
+    pel_hann_q15(symmetry: u64) -> Report;
     /// Blackman and Harris's window as floats.
-    pel_blackman_harris_f32(symmetry: u64);
+    pel_blackman_harris_f32(symmetry: u64) -> Report;
     /// Blackman and Harris's window as Q15 numbers.
-    pel_blackman_harris_q15(symmetry: u64);
+    pel_blackman_harris_q15(symmetry: u64) -> Report;
     /// Kaiser's window as floats.
-    pel_kaiser_f32(beta: f64, symmetry: u64);
+    pel_kaiser_f32(beta: f64, symmetry: u64) -> Report;
     /// Kaiser's window as Q15 numbers.
-    pel_kaiser_q15(beta: f64, symmetry: u64);
+    pel_kaiser_q15(beta: f64, symmetry: u64) -> Report;
 }
 
 /// A function that converts a source into a buffer: each pointer and its length as one slice.

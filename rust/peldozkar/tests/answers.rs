@@ -4,9 +4,9 @@
 use std::collections::BTreeSet;
 use std::mem::offset_of;
 
-use peldozkar::raw::{self, GainReport, Report};
+use peldozkar::raw::{self, GainReport, Report, Tuned};
 use peldozkar::{
-    HalfSamples, Response, Rrc, Series, Spec, Symmetry, Window, bessel_i0, biquad_coefs,
+    HalfSamples, Lowpass, Response, Rrc, Series, Spec, Symmetry, Window, bessel_i0, biquad_coefs,
     blackman_harris, butterworth_sos, channelizer_lowpass, channelizer_prototype, channelizer_taps,
     channelizer_taps_per_branch, delay, gaussian, gaussian_new, halfband, halfband_len,
     halfband_new, hann, kaiser, kaiser_beta, kaiserord, lowpass, lowpass_new, preemphasis_coefs,
@@ -60,6 +60,24 @@ fn layouts_are_those_of_the_header() {
         offset_of!(GainReport, bandwidth),
     ];
     assert_eq!(places, [0, 4, 8, 16, 24, 32, 40]);
+    assert_eq!(
+        (size_of::<raw::Design>(), align_of::<raw::Design>()),
+        (48, 8)
+    );
+    let places = [
+        offset_of!(raw::Design, taps),
+        offset_of!(raw::Design, fraction),
+        offset_of!(raw::Design, window),
+        offset_of!(raw::Design, beta),
+        offset_of!(raw::Design, series),
+        offset_of!(raw::Design, sum),
+    ];
+    assert_eq!(places, [0, 8, 16, 24, 32, 40]);
+    assert_eq!((size_of::<Tuned>(), align_of::<Tuned>()), (120, 8));
+    assert_eq!(
+        (offset_of!(Tuned, design), offset_of!(Tuned, report)),
+        (0, 48)
+    );
 }
 
 #[test]
@@ -103,6 +121,54 @@ fn kaisers_formulas() {
         assert_eq!(delay(taps), Ok(HalfSamples(taps - 1)));
         assert_eq!(raw::pel_delay(taps).count, taps - 1);
     }
+}
+
+/// A knob that is turned has the taps and the record of a design from nothing, whatever was refused on the way.
+#[test]
+fn turned_knobs() {
+    let mut taps = [0.0; 31];
+    let mut knob = Lowpass::new(900.0, 8000.0, Window::Kaiser(8.0), &mut taps).unwrap();
+    let mut last = (900.0, 8000.0, 8.0);
+    let fresh = |(cutoff, rate, beta): (f64, f64, f64)| {
+        let mut taps = [0.0; 31];
+        let knob = Lowpass::new(cutoff, rate, Window::Kaiser(beta), &mut taps).unwrap();
+        (knob, taps)
+    };
+    assert_eq!((knob, taps), fresh(last));
+    let series = bessel_i0(8.0).sum;
+    assert_eq!(knob.record().series, series);
+    for step in 0..40_u32 {
+        let value = f64::from(step);
+        // Every third turn is one past half the rate, or a beta below 0, and is refused.
+        let answer = match step % 6 {
+            0 | 2 => knob.new_cutoff(300.0 + 50.0 * value, 6000.0 + value, &mut taps),
+            1 => knob.new_cutoff(4000.0, 8000.0, &mut taps),
+            4 => knob.new_beta(-value, &mut taps),
+            _ => knob.new_beta(0.25 * value, &mut taps),
+        };
+        let refused = answer.err().map(|error| error.number());
+        match step % 6 {
+            0 | 2 => last = (300.0 + 50.0 * value, 6000.0 + value, last.2),
+            3 | 5 => last.2 = 0.25 * value,
+            1 => assert_eq!(refused, Some(2)),
+            _ => assert_eq!(refused, Some(4)),
+        }
+        assert_eq!(refused.is_some(), step % 3 == 1, "step {step}");
+        assert_eq!((knob, taps), fresh(last), "step {step}");
+        assert_eq!(
+            knob.design(),
+            lowpass_new(last.0, last.1, Window::Kaiser(last.2), 31).unwrap()
+        );
+    }
+    // One tap keeps a series that overflows as it was reached.
+    let mut one = [0.0];
+    let mut knob = Lowpass::new(0.25, 1.0, Window::Kaiser(1e4), &mut one).unwrap();
+    assert_eq!((knob.record().series, one), (bessel_i0(1e4).sum, [1.0]));
+    knob.new_beta(-0.0, &mut one).unwrap();
+    assert_eq!(
+        (knob.record().beta.to_bits(), knob.record().series),
+        ((-0.0_f64).to_bits(), 1.0)
+    );
 }
 
 #[test]

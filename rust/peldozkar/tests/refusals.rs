@@ -1,11 +1,11 @@
 //! Every refusal by its number, with what it carries, and what it leaves of a buffer.
 
 use peldozkar::{
-    Carried, Error, Reason, Response, Spec, Symmetry, Window, biquad_coefs, blackman_harris,
-    butterworth_sos, channelizer_prototype, channelizer_taps, delay, gaussian, gaussian_new,
-    halfband, halfband_len, halfband_new, hann, kaiser, kaiserord, lowpass, lowpass_new,
-    preemphasis_coefs, q14_from_f64, q15_tap, raw, rrc, rrc_len, rrc_new, to_f32, to_f32_sos,
-    to_q14, to_q15, window_gain,
+    Carried, Error, Lowpass, Reason, Response, Spec, Symmetry, Window, biquad_coefs,
+    blackman_harris, butterworth_sos, channelizer_prototype, channelizer_taps, delay, gaussian,
+    gaussian_new, halfband, halfband_len, halfband_new, hann, kaiser, kaiserord, lowpass,
+    lowpass_new, preemphasis_coefs, q14_from_f64, q15_tap, raw, rrc, rrc_len, rrc_new, to_f32,
+    to_f32_sos, to_q14, to_q15, window_gain,
 };
 
 const NAN: f64 = f64::NAN;
@@ -510,4 +510,45 @@ fn in_words() {
     // It is an error like any other.
     let boxed: Box<dyn std::error::Error + Send + Sync> = Box::new(delay(0).unwrap_err());
     assert!(boxed.source().is_none());
+}
+
+/// A turn that is refused leaves the record and the buffer; 7 comes before all else, a length before the numbers.
+#[test]
+fn turns_of_a_knob() {
+    let mut taps = [0.0; 5];
+    let mut knob = Lowpass::new(1000.0, 8000.0, Window::Hann, &mut taps).unwrap();
+    let kept = knob;
+    plain(lent::<3, _>(|out| knob.new_beta(NAN, out)), Reason::Code);
+    refused(
+        lent::<3, _>(|out| knob.new_cutoff(NAN, NAN, out)),
+        Reason::Length,
+        length(5, 3),
+    );
+    plain(
+        lent::<5, _>(|out| knob.new_cutoff(NAN, NAN, out)),
+        Reason::Rate,
+    );
+    refused(
+        lent::<5, _>(|out| knob.new_cutoff(4000.0, 8000.0, out)),
+        Reason::Frequency,
+        range(0.0, 4000.0, 4000.0),
+    );
+    assert_eq!(knob, kept);
+    let mut knob = Lowpass::new(1000.0, 8000.0, Window::Kaiser(2.0), &mut taps).unwrap();
+    let kept = knob;
+    refused(
+        lent::<4, _>(|out| knob.new_beta(NAN, out)),
+        Reason::Length,
+        length(5, 4),
+    );
+    plain(
+        lent::<5, _>(|out| knob.new_beta(NAN, out)),
+        Reason::Attenuation,
+    );
+    plain(lent::<5, _>(|out| knob.new_beta(1e4, out)), Reason::Divisor);
+    assert_eq!(knob, kept);
+    plain(
+        lent::<5, _>(|out| Lowpass::new(NAN, -1.0, Window::Hann, out)),
+        Reason::Rate,
+    );
 }
