@@ -77,31 +77,6 @@ static int complain(const char *kind, const char *format, ...)
     return USAGE;
 }
 
-/* A refusal's meaning that is the same for every kind. */
-static const char *common_meaning(uint32_t number)
-{
-    switch (number) {
-    case PEL_BAD_RATE:
-        return "the rate must be finite and positive";
-    case PEL_BAD_TRANSITION:
-        return "the transition must be finite and positive, and wide enough for 2^24 taps";
-    case PEL_BAD_ATTENUATION:
-        return "the attenuation must be finite, and 8 dB or more";
-    case PEL_BAD_CODE:
-        return "the window code is unknown";
-    case PEL_BAD_LENGTH:
-        return "the buffer's length is wrong";
-    case PEL_TOO_MANY_TAPS:
-        return "more taps are needed than --max-taps allows";
-    case PEL_BAD_SUM:
-        return "the sum that the taps are divided by is zero or not finite: too few taps, or beta too large";
-    case PEL_BAD_ELEMENT:
-        return "a tap is too large for Q15";
-    default:
-        return "the ticket is refused";
-    }
-}
-
 static void say_after(const char *before, double x)
 {
     fputs(before, stderr);

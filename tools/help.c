@@ -23,7 +23,9 @@ static const struct help helps[] = {
      "  --cutoff HZ        where the response is down to a half; above 0 and below half the rate\n" RATE_HELP
      "  --taps N           how many taps; 1 to 2^24\n"
      "  --window W         hann, hamming (if not said), blackman or kaiser\n"
-     "  --beta B           the shape of Kaiser's window, which needs it; finite and not negative\n" TAP_HELP,
+     "  --beta B           the shape of Kaiser's window, which needs it; finite and not negative\n"
+     "  --turns LIST       then turn the knob: cutoff=HZ, cutoff=HZ@RATE or beta=B, with commas between; the taps are\n"
+     "                     those of the last turn, and a turn that is refused is told with its words\n" TAP_HELP,
      "lowpass --cutoff 1000 --rate 8000 --taps 31 --window kaiser --beta 5.65326"},
     {"spec", "a low-pass filter by what it has to do, with as many taps as that needs",
      "  --cutoff HZ        the middle of the transition; above 0, and half the transition or more below half\n"

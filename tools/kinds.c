@@ -5,11 +5,37 @@
 #include <stdbool.h>
 #include <stdio.h>
 
+#include "turns.h"
+
 /* Said of more kinds than one. */
 static const char bad_beta[] = "beta must be finite and not negative";
 static const char bad_samples[] = "the samples of a symbol are out of range";
 static const char bad_span[] = "the span, in symbols, is out of range";
 static const char not_q14[] = "Q14 can't take a coefficient";
+
+const char *common_meaning(uint32_t number)
+{
+    switch (number) {
+    case PEL_BAD_RATE:
+        return "the rate must be finite and positive";
+    case PEL_BAD_TRANSITION:
+        return "the transition must be finite and positive, and wide enough for 2^24 taps";
+    case PEL_BAD_ATTENUATION:
+        return "the attenuation must be finite, and 8 dB or more";
+    case PEL_BAD_CODE:
+        return "the window code is unknown";
+    case PEL_BAD_LENGTH:
+        return "the buffer's length is wrong";
+    case PEL_TOO_MANY_TAPS:
+        return "more taps are needed than --max-taps allows";
+    case PEL_BAD_SUM:
+        return "the sum that the taps are divided by is zero or not finite: too few taps, or beta too large";
+    case PEL_BAD_ELEMENT:
+        return "a tap is too large for Q15";
+    default:
+        return "the ticket is refused";
+    }
+}
 
 static pel_report counted(uint64_t n)
 {
@@ -23,24 +49,53 @@ static pel_report judge_lowpass(struct ticket *t)
     return pel_lowpass_new(t->cutoff, t->rate, t->window, t->beta, t->taps);
 }
 
+/* The turn that was refused, in its list; without letters where none was. */
+static struct turn refused;
+
+/* The design, and then its knob turned through the list, up to a turn that is refused. */
 static pel_report fill_lowpass(const struct ticket *t, uint8_t *out, size_t bytes)
 {
-    return pel_lowpass(t->cutoff, t->rate, t->window, t->beta, out, bytes);
+    const char *list = t->turns != NULL ? t->turns : "";
+    struct turn turn = {.rate = t->rate};
+    pel_tuned k = pel_design_lowpass(t->cutoff, t->rate, t->window, t->beta, out, bytes);
+    while (k.report.number == PEL_ACCEPTED && take_turn(&list, &turn)) {
+        if (turn.beta)
+            k = pel_design_new_beta(k.design, turn.to, out, bytes);
+        else
+            k = pel_design_new_cutoff(k.design, turn.to, turn.rate, out, bytes);
+        if (k.report.number != PEL_ACCEPTED)
+            refused = turn;
+    }
+    return k.report;
 }
 
-static const char *mean_lowpass(const struct ticket *t, const pel_report *r)
+static const char *lowpass_meaning(uint32_t number)
 {
-    (void)t;
-    switch (r->number) {
+    switch (number) {
     case PEL_BAD_FREQUENCY:
         return "the cutoff must lie above 0 and below half the rate";
     case PEL_BAD_ATTENUATION:
         return bad_beta;
     case PEL_BAD_COUNT:
         return "the number of taps must be from 1 to 2^24";
+    case PEL_BAD_CODE:
+        return "only Kaiser's window has a beta to turn";
     default:
-        return NULL;
+        return common_meaning(number);
     }
+}
+
+/* A turn's refusal begins with the turn. */
+static const char *mean_lowpass(const struct ticket *t, const pel_report *r)
+{
+    static char text[200];
+    const char *meaning = lowpass_meaning(r->number);
+    (void)t;
+    if (refused.letters == 0)
+        return meaning;
+    snprintf(text, sizeof text, "at the turn %.*s, %s", refused.letters < 80 ? refused.letters : 80, refused.word,
+             meaning);
+    return text;
 }
 
 static pel_report judge_spec(struct ticket *t)
@@ -322,9 +377,9 @@ static const char *mean_window(const struct ticket *t, const pel_report *r)
 #define RESPONSE_USAGE "--response lowpass|highpass|bandpass|notch"
 
 const struct kind kinds[KINDS] = {
-    {"lowpass", "--cutoff HZ --rate HZ --taps N [--window hann|hamming|blackman|kaiser] [--beta B]",
-     CUTOFF | RATE | TAPS, WINDOW | BETA, "taps", tap_forms, TAP_PARTS, show_lowpass, judge_lowpass, fill_lowpass,
-     mean_lowpass},
+    {"lowpass", "--cutoff HZ --rate HZ --taps N [--window hann|hamming|blackman|kaiser] [--beta B] [--turns LIST]",
+     CUTOFF | RATE | TAPS, WINDOW | BETA | (unsigned)TURNS, "taps", tap_forms, TAP_PARTS, show_lowpass, judge_lowpass,
+     fill_lowpass, mean_lowpass},
     {"spec", "--cutoff HZ --transition HZ --attenuation DB --rate HZ [--max-taps N]",
      CUTOFF | TRANSITION | ATTENUATION | RATE, MAX_TAPS, "taps", tap_forms, TAP_PARTS, show_spec, judge_spec, fill_spec,
      mean_spec},

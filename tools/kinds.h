@@ -26,6 +26,9 @@ struct kind {
     const char *(*meaning)(const struct ticket *t, const pel_report *r);
 };
 
+/* What a refusal means where it means the same for every kind. */
+const char *common_meaning(uint32_t number);
+
 enum { KINDS = 13 };
 extern const struct kind kinds[KINDS];
 

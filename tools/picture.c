@@ -10,6 +10,7 @@
 
 #include "forms.h"
 #include "peldozkar.h"
+#include "turns.h"
 
 static const double half_power = -3.0102999566398120; /* dB */
 
@@ -90,9 +91,16 @@ static double in_hertz(struct picture *p, double rate)
 void show_lowpass(const struct ticket *t, size_t n, struct picture *p)
 {
     (void)n;
+    /* The cutoff and the rate of the last turn, where the knob was turned. */
+    const char *list = t->turns != NULL ? t->turns : "";
+    struct turn turn = {.rate = t->rate};
+    double cutoff = t->cutoff;
+    while (take_turn(&list, &turn))
+        if (!turn.beta)
+            cutoff = turn.to;
     strcpy(p->title, "Low-pass filter");
-    double hertz = in_hertz(p, t->rate);
-    mark_at(p, "cutoff", t->cutoff / hertz);
+    double hertz = in_hertz(p, turn.rate);
+    mark_at(p, "cutoff", cutoff / hertz);
 }
 
 /* The attenuation's size counts, as for the taps. */

@@ -11,8 +11,9 @@
 #include <string.h>
 
 #include "forms.h"
+#include "turns.h"
 
-enum reading { NUMBER, COUNT, NAME, IDENTIFIER, PATH, ALONE };
+enum reading { NUMBER, COUNT, NAME, IDENTIFIER, PATH, LIST, ALONE };
 
 /* What an option can be called, in the order of the header's codes, up to a null. */
 struct names {
@@ -40,6 +41,7 @@ static const struct option {
     {"--max-taps", MAX_TAPS, COUNT, offsetof(struct ticket, max_taps), NULL},
     {"--window", WINDOW, NAME, offsetof(struct ticket, window), &windows},
     {"--beta", BETA, NUMBER, offsetof(struct ticket, beta), NULL},
+    {"--turns", (unsigned)TURNS, LIST, offsetof(struct ticket, turns), NULL},
     {"--bt", BT, NUMBER, offsetof(struct ticket, bt), NULL},
     {"--rolloff", ROLLOFF, NUMBER, offsetof(struct ticket, rolloff), NULL},
     {"--samples", SAMPLES, COUNT, offsetof(struct ticket, samples), NULL},
@@ -119,6 +121,16 @@ static bool is_identifier(const char *word)
     return *word != '\0' && strspn(word, letters) == strlen(word) && strspn(word, "0123456789") == 0;
 }
 
+/* One turn at least, and nothing but turns. */
+static bool is_list(const char *word)
+{
+    struct turn t = {0};
+    while (take_turn(&word, &t))
+        if (*word == '\0')
+            return true;
+    return false;
+}
+
 /* One value into its place: null, or what the word isn't. */
 static const char *read_value(const struct option *o, const char *word, struct ticket *t)
 {
@@ -136,6 +148,9 @@ static const char *read_value(const struct option *o, const char *word, struct t
     case PATH:
         *(const char **)place = word;
         return *word != '\0' ? NULL : "not a file's name:";
+    case LIST:
+        *(const char **)place = word;
+        return is_list(word) ? NULL : "not turns such as cutoff=1200,beta=8 or cutoff=1200@48000:";
     case ALONE:
         break;
     }
@@ -182,7 +197,7 @@ static void say_value(FILE *to, const struct ticket *t, const struct option *o)
         fprintf(to, "%" PRIu64, *(const uint64_t *)place);
     if (o->reading == NAME)
         fputs(o->names->name[*(const uint64_t *)place], to);
-    if (o->reading == IDENTIFIER || o->reading == PATH)
+    if (o->reading == IDENTIFIER || o->reading == PATH || o->reading == LIST)
         fputs(*(const char *const *)place, to);
 }
 

@@ -39,7 +39,9 @@ enum {
     FORM = 1 << 27,
     ARRAY = 1 << 28,
     OUT = 1 << 29,
-    PLOT = 1 << 30
+    PLOT = 1 << 30,
+    /* The last of 32 bits, which an enum's constant has as its sign. */
+    TURNS = -0x7FFFFFFF - 1
 };
 
 /* The options that every kind has. */
@@ -52,7 +54,7 @@ enum { AS_TEXT = 0, AS_C = 1, AS_RAW = 2 };
 struct ticket {
     double cutoff, rate, transition, attenuation, beta, bt, passband, stopband, rolloff, centre, q, tau;
     uint64_t taps, max_taps, window, samples, span, channels, branch, response, order, symmetry, form;
-    const char *array, *out, *plot;
+    const char *array, *out, *plot, *turns;
     unsigned given;
 };
 
