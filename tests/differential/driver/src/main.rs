@@ -11,6 +11,7 @@ mod gaussian;
 mod halfband;
 mod kaiser;
 mod lowpass;
+mod retune;
 mod rrc;
 mod run;
 mod sections;
@@ -40,12 +41,14 @@ fn known(words: &[String], names: &[&str]) -> bool {
         .all(|pair| pair.len() == 2 && names.contains(&pair[0].as_str()))
 }
 
-/// Puts wrong functions and designers in the port's place, and lists of taps that hardly keep or
-/// break a total before its check; true if each one was noticed.
+/// Puts wrong functions, designers and turns in the port's place, and lists of taps that hardly keep
+/// or break a total before its check; true if each one was noticed.
 fn faults_noticed(seed: u64) -> bool {
     let (functions, of_functions) = functions::compare::run_faults(seed);
     let (designers, of_designers) = run::compare::run_faults(seed);
-    let (noticed, all) = (functions + designers, of_functions + of_designers);
+    let (turns, of_turns) = retune::compare::run_faults(seed);
+    let noticed = functions + designers + turns;
+    let all = of_functions + of_designers + of_turns;
     println!("planted faults: {noticed} of {all} noticed");
     let (judged, lists) = run::totals::run_faults();
     println!("lists of taps for the totals: {judged} of {lists} judged rightly");
@@ -63,7 +66,8 @@ fn run(words: &[String]) -> Option<bool> {
             let ready = run::smoke::run() & faults_noticed(seed);
             let functions = functions::compare::run(count, seed);
             let designers = run::compare::run(tickets, seed);
-            Some(ready && functions && designers)
+            let turns = retune::compare::run(tickets, seed);
+            Some(ready && functions && designers && turns)
         }
         "day"
             if known(

@@ -4,7 +4,8 @@ use std::hint::black_box;
 use std::time::Instant;
 
 use crate::{
-    channelizer, formats, functions, gaussian, halfband, lowpass, rrc, sections, spec, windows,
+    channelizer, formats, functions, gaussian, halfband, lowpass, retune, rrc, sections, spec,
+    windows,
 };
 
 const ROUNDS: usize = 101;
@@ -20,7 +21,7 @@ pub const CUTOFFS: [f64; 4] = [0.05, 0.1, 0.21, 0.3];
 
 /// The microseconds of one call, over one pass through the numbers, again and again; a call tells
 /// whether it was accepted.
-pub fn pass(numbers: &[f64], elements: usize, mut call: impl FnMut(f64) -> bool) -> f64 {
+pub fn pass<T: Copy>(numbers: &[T], elements: usize, mut call: impl FnMut(T) -> bool) -> f64 {
     let times = PASS_ELEMENTS.div_ceil(elements * numbers.len());
     let start = Instant::now();
     for _ in 0..times {
@@ -66,17 +67,25 @@ fn median(times: &mut [f64]) -> f64 {
     times[times.len() / 2]
 }
 
-/// The medians of the rounds, in which the two passes take turns; each gives its time.
-pub fn rounds(mut port: impl FnMut() -> f64, mut rust: impl FnMut() -> f64) -> (f64, f64) {
+/// The medians of the rounds, in which the passes take turns; each gives its time.
+pub fn medians<const N: usize>(mut passes: [&mut dyn FnMut() -> f64; N]) -> [f64; N] {
     // The first pass warms the caches and isn't counted.
-    port();
-    rust();
-    let mut times = [const { Vec::new() }; 2];
-    for _ in 0..ROUNDS {
-        times[0].push(port());
-        times[1].push(rust());
+    for pass in &mut passes {
+        pass();
     }
-    (median(&mut times[0]), median(&mut times[1]))
+    let mut times = [const { Vec::new() }; N];
+    for _ in 0..ROUNDS {
+        for (pass, times) in passes.iter_mut().zip(&mut times) {
+            times.push(pass());
+        }
+    }
+    times.map(|mut times| median(&mut times))
+}
+
+/// The same of the two sides.
+pub fn rounds(mut port: impl FnMut() -> f64, mut rust: impl FnMut() -> f64) -> (f64, f64) {
+    let [port, rust] = medians([&mut port, &mut rust]);
+    (port, rust)
 }
 
 /// Prints for each function, kind of design, conversion and window the median over the rounds on both sides, and
@@ -85,6 +94,7 @@ pub fn run() {
     functions::bench::run();
     println!("designs, into buffers that are not cleared between rounds:");
     lowpass::bench::run();
+    retune::bench::run();
     spec::bench::run();
     halfband::bench::run();
     gaussian::bench::run();

@@ -30,7 +30,7 @@ fn carried(carries: u32) -> &'static str {
 
 /// Whether the buffer begins with what the Rust wrote, by bits, any NaN being the same as any
 /// other, and is otherwise as it came.
-fn holds(buffer: &Lent, answer: &Answer) -> bool {
+pub fn holds(buffer: &Lent, answer: &Answer) -> bool {
     if !answer.fixed.is_empty() {
         buffer.begins(answer.fixed.iter(), |bytes, number| {
             bytes == number.to_le_bytes()

@@ -1,8 +1,9 @@
 //! The port's side: the C functions of its static library, through the raw layer of the crate peldozkar, which
 //! takes bytes at any alignment.
 
-use peldozkar::raw::{self, GainReport};
+use peldozkar::raw::{self, Design, GainReport};
 
+use crate::retune::Tuned;
 use crate::run::report::Report;
 use crate::run::tickets::{
     Band, Cascade, Channels, Cosine, Form, Format, Pulse, Section, Spec, Window,
@@ -32,6 +33,18 @@ pub fn lowpass_new(band: &Band, taps: u64) -> Report {
 
 pub fn lowpass(band: &Band, out: &mut [u8]) -> Report {
     raw::pel_lowpass(band.cutoff, band.rate, band.window, band.beta, out).into()
+}
+
+pub fn design_lowpass(band: &Band, out: &mut [u8]) -> Tuned {
+    raw::pel_design_lowpass(band.cutoff, band.rate, band.window, band.beta, out).into()
+}
+
+pub fn design_new_cutoff(design: Design, cutoff: f64, rate: f64, out: &mut [u8]) -> Tuned {
+    raw::pel_design_new_cutoff(design, cutoff, rate, out).into()
+}
+
+pub fn design_new_beta(design: Design, beta: f64, out: &mut [u8]) -> Tuned {
+    raw::pel_design_new_beta(design, beta, out).into()
 }
 
 pub fn spec_num_taps(spec: &Spec) -> Report {

@@ -1,0 +1,115 @@
+//! Times a turn to a new cutoff and one to a new beta beside the port's design from nothing and the Rust's.
+
+use std::hint::black_box;
+
+use sdrk_blocks::design::{DesignWindow, firwin_lowpass};
+
+use crate::retune::{Design, KAISER};
+use crate::run::bench::{BETA, medians, pass};
+use crate::run::port;
+use crate::run::tickets::Band;
+
+/// One design in four ways: its numbers, and the records that one turn makes it of.
+#[derive(Clone, Copy)]
+struct Ways {
+    band: Band,
+    other_cutoff: Design,
+    other_beta: Design,
+}
+
+/// Designs whose cutoffs and betas are all different, so that nothing is made anew of what was made before.
+fn ways(taps: usize) -> Vec<Ways> {
+    let mut bytes = vec![0; 8 * taps];
+    let mut kept = |band: Band| port::design_lowpass(&band, &mut bytes).design;
+    let band = |i: u32| Band {
+        cutoff: 0.05 + 0.02 * f64::from(i),
+        rate: 1.0,
+        window: KAISER,
+        beta: BETA - 0.5 + f64::from(i) / 15.0,
+    };
+    (0..16)
+        .map(|i| Ways {
+            band: band(i),
+            other_cutoff: kept(Band {
+                cutoff: 0.21,
+                ..band(i)
+            }),
+            other_beta: kept(Band {
+                beta: BETA,
+                ..band(i)
+            }),
+        })
+        .collect()
+}
+
+/// Prints for each number of taps the medians of the four, which take turns in the rounds.
+pub fn run() {
+    for taps in [63, 293] {
+        let ways = ways(taps);
+        let mut outs = [const { Vec::new() }; 3];
+        outs.fill(vec![0; 8 * taps]);
+        let [designed, cutoffs, betas] = &mut outs;
+        let mut floats = vec![0.0; taps];
+        let [design, cutoff, beta, rust] = medians([
+            &mut || {
+                pass(&ways, taps, |way| {
+                    port::lowpass(&way.band, black_box(designed)).is_accepted()
+                })
+            },
+            &mut || {
+                pass(
+                    &ways,
+                    taps,
+                    |Ways {
+                         band, other_cutoff, ..
+                     }| {
+                        port::design_new_cutoff(
+                            other_cutoff,
+                            band.cutoff,
+                            band.rate,
+                            black_box(cutoffs),
+                        )
+                        .report
+                        .is_accepted()
+                    },
+                )
+            },
+            &mut || {
+                pass(
+                    &ways,
+                    taps,
+                    |Ways {
+                         band, other_beta, ..
+                     }| {
+                        port::design_new_beta(other_beta, band.beta, black_box(betas))
+                            .report
+                            .is_accepted()
+                    },
+                )
+            },
+            &mut || {
+                pass(&ways, taps, |Ways { band, .. }| {
+                    let window = DesignWindow::Kaiser { beta: band.beta };
+                    firwin_lowpass(band.cutoff, band.rate, window, black_box(&mut floats)).is_ok()
+                })
+            },
+        ]);
+        // The last of each pass is the same design.
+        assert!(
+            outs.iter().all(|out| *out == outs[0]),
+            "a turn made other taps"
+        );
+        println!(
+            "turns, Kaiser            {taps:4} taps      design {design:8.3} us  new cutoff {cutoff:8.3} us  \
+             new beta {beta:8.3} us  rust {rust:8.3} us"
+        );
+        println!(
+            "  new cutoff / design {:.2}, new beta / design {:.2}; of the Rust's design: new cutoff {:.2}, \
+             new beta {:.2}",
+            cutoff / design,
+            beta / design,
+            cutoff / rust,
+            beta / rust,
+        );
+    }
+}
