@@ -5,6 +5,7 @@
  * document, the Rust's own examples, a paper or a computation by hand. What the port has beside its exports is held
  * to its examples by the export with the same definition:
  *   firwin_lowpass, the taps of Lowpass      pel_lowpass
+ *   new_cutoff, new_beta                     pel_design_new_cutoff, pel_design_new_beta
  *   DesignSpec's design                      pel_spec_design
  *   halfband_taps, HalfbandDesign's taps     pel_halfband
  *   gaussian, rrc, channelizer_prototype     the export of that name

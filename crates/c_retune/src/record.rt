@@ -10,8 +10,8 @@ use verdict::Refusal;
 ghost use mathlib.Core.Path.{_≡_};
 ghost use Rattle.c_retune.specs.Designs.{designAs, readOf};
 
-// How many taps, the cutoff as a fraction of the rate, the window by its code, its beta (0 where it has none), the value
-// that the window is divided by (the series at beta, or 1), and the sum that the taps are divided by.
+// How many taps, the cutoff as a fraction of the rate, the window by its code, its beta (0 where it has none), the
+// value that the window is divided by (the series at beta, or 1), and the sum that the taps are divided by.
 #[repr(C)]
 pub struct Design {
     pub taps: u64,
@@ -37,8 +37,8 @@ pub(crate) fn design_of(lp: Lowpass) -> Design
     }
 }
 
-// The low-pass of a record, for a buffer of `len` bytes. Refused, in this order: 7 a code that no window has; 8 a length
-// that isn't a multiple of 8, in bytes; 8 a buffer for another number of taps, in taps.
+// The low-pass of a record, for a buffer of `len` bytes. Refused, in this order: 7 a code that no window has; 8 a
+// length that isn't a multiple of 8, in bytes; 8 a buffer for another number of taps, in taps.
 pub(crate) fn read(kept: Design, len: u64) -> Designed
     ensures { λ r. ⌜ r ≡ readOf kept len ⌝ }
 {

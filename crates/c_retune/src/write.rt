@@ -1,5 +1,5 @@
-// A low-pass's taps in a buffer that it fits, with its record and the report of it; a refusal told, with the record as it
-// came.
+// A low-pass's taps in a buffer that it fits, with its record and the report of it; a refusal told, with the record as
+// it came.
 use super::record::Design;
 use super::record::design_of;
 use fir_lowpass::lowpass::Designed;
