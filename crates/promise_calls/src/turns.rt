@@ -16,7 +16,7 @@ ghost use Rattle.promise_totals.specs.Written.{Totals};
 
 // Its report and its bytes are those of pel_lowpass.
 pub fn design_lowpass(cutoff: f64, rate: f64, window: u64, beta: f64, out: &mut [u8]) -> Tuned
-    ensures { λ r. ⌜ FilledOrKept floatBytes (lowpassBytes cutoff rate (windowOf window beta) (length (now (out .entry)))) (now (out .entry)) (r .report) (now (out .exit)) ⌝ ∗ ⌜ Totals (r .report) (now (out .exit)) ⌝ ∗ ⌜ Begins cutoff rate window beta (length (now (out .entry)) / 8) r ⌝ }
+    ensures { λ r. ⌜ FilledOrKept floatBytes (lowpassBytes cutoff rate (windowOf window beta) (length (now (out .entry)))) (now (out .entry)) (r .report) (now (out .exit)) ⌝ ∗ ⌜ Totals (r .report) (now (out .exit)) ⌝ ∗ ⌜ Begins cutoff rate window beta (length (now (out .entry)) / 8) r (now (out .exit)) ⌝ }
 {
     c_retune::retune::pel_design_lowpass(cutoff, rate, window, beta, &mut *out)
 }

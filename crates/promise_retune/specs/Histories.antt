@@ -97,9 +97,12 @@ abbrev pub Shows : Numbers → List ℕ → Type 0
 Shows t b = b ≡ written floatBytes (outcomeOf (designedFrom t)) b
 
 -- ---- the first design
--- where it is accepted, its record is designed from its numbers
-abbrev pub Begins : Float → Float → ℕ → Float → ℕ → Tuned → Type 0
-Begins cutoff rate window beta n r = (w : Window) → windowOf window beta ≡ Known w → r .report .number ≡ 0 → DesignedAs (record { cutoff = cutoff; rate = rate; window = w; n = n }) (r .design)
+-- where it is accepted, its record is designed from its numbers, and its buffer holds the taps
+abbrev pub Begun : Numbers → Tuned → List ℕ → Type 0
+Begun t r after = DesignedAs t (r .design) × Shows t after
+
+abbrev pub Begins : Float → Float → ℕ → Float → ℕ → Tuned → List ℕ → Type 0
+Begins cutoff rate window beta n r after = (w : Window) → windowOf window beta ≡ Known w → r .report .number ≡ 0 → Begun (record { cutoff = cutoff; rate = rate; window = w; n = n }) r after
 
 -- ---- demand 1 of the record: a refusal leaves it
 abbrev pub LeavesRecord : Design → Tuned → Type 0

@@ -202,9 +202,10 @@ as-lowpass cutoff rate window beta len = by-code (windowOf window beta)
     by-code (Known w) = by-length (eqb (len % 8) 0) (lowpassOf cutoff rate w (len / 8))
     by-code Unknown = refl
 
-pub begins : (cutoff rate : Float) (window : ℕ) (beta : Float) {before after : List ℕ} {r : Tuned} → Listed (answered (outcomeOf (lowpassFor cutoff rate window beta (length before)))) → Tunes none (lowpassFor cutoff rate window beta (length before)) before r after → Begins cutoff rate window beta (length before / 8) r
+pub begins : (cutoff rate : Float) (window : ℕ) (beta : Float) {before after : List ℕ} {r : Tuned} → Listed (answered (outcomeOf (lowpassFor cutoff rate window beta (length before)))) → Tunes none (lowpassFor cutoff rate window beta (length before)) before r after → Begins cutoff rate window beta (length before / 8) r after
 unfolding lowpassFor
 begins cutoff rate window beta {before} {after} {r} l h w e z =
     let len = length before in
     let a = ready-so (lowpassIn cutoff rate len (windowOf window beta)) l h z in
-    record { design = a .0; from = whole-is len (lowpassOf cutoff rate w (len / 8)) (a .0) (sym (ap (lowpassIn cutoff rate len) e) ∙ a .1); is = a .2 }
+    let f : lowpassOf cutoff rate w (len / 8) ≡ Ready (a .0) = whole-is len (lowpassOf cutoff rate w (len / 8)) (a .0) (sym (ap (lowpassIn cutoff rate len) e) ∙ a .1) in
+    (record { design = a .0; from = f; is = a .2 }, h .writes .buffer ∙ ap (λ (x : Designed). written floatBytes (outcomeOf x) before) (a .1) ∙ ap (λ (x : Designed). written floatBytes (outcomeOf x) after) (sym f))

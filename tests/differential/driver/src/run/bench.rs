@@ -67,8 +67,8 @@ fn median(times: &mut [f64]) -> f64 {
     times[times.len() / 2]
 }
 
-/// The medians of the rounds, in which the passes take turns; each gives its time.
-pub fn medians<const N: usize>(mut passes: [&mut dyn FnMut() -> f64; N]) -> [f64; N] {
+/// The times of the rounds, in which the passes take turns; each gives its time.
+pub fn times<const N: usize>(mut passes: [&mut dyn FnMut() -> f64; N]) -> [Vec<f64>; N] {
     // The first pass warms the caches and isn't counted.
     for pass in &mut passes {
         pass();
@@ -79,12 +79,12 @@ pub fn medians<const N: usize>(mut passes: [&mut dyn FnMut() -> f64; N]) -> [f64
             times.push(pass());
         }
     }
-    times.map(|mut times| median(&mut times))
+    times
 }
 
-/// The same of the two sides.
+/// The medians of the two sides.
 pub fn rounds(mut port: impl FnMut() -> f64, mut rust: impl FnMut() -> f64) -> (f64, f64) {
-    let [port, rust] = medians([&mut port, &mut rust]);
+    let [port, rust] = times([&mut port, &mut rust]).map(|mut times| median(&mut times));
     (port, rust)
 }
 
