@@ -167,8 +167,7 @@ pel_report pel_spec_design(double cutoff, double transition, double attenuation,
 
 /* ---- A low-pass whose knob is turned ------------------------------------------------------------ */
 
-/* The record of a low-pass, which the caller keeps from one turn to the next, copies as it likes, and needs to look
- * into no more than it cares. */
+/* The record of a low-pass, which the caller keeps from one turn to the next and may copy; it needn't look inside. */
 typedef struct {
     uint64_t taps;   /* how many */
     double fraction; /* the cutoff over the rate */
