@@ -5,7 +5,7 @@ use std::hint::black_box;
 use sdrk_blocks::design::{DesignWindow, firwin_lowpass};
 
 use crate::retune::{Design, KAISER};
-use crate::run::bench::{BETA, pass, times};
+use crate::run::bench::{BETA, median, pass, times};
 use crate::run::port;
 use crate::run::tickets::Band;
 
@@ -42,8 +42,9 @@ fn ways(taps: usize) -> Vec<Ways> {
         .collect()
 }
 
-/// Prints for each number of taps the least time of the four, which take turns in the rounds: a new cutoff spares one
-/// series of many, which is less than what the medians of two runs part by.
+/// Prints for each number of taps the medians of the four, which take turns in the rounds, and the ratios of the medians
+/// and of the least times: a new cutoff spares one series of many, which is less than what the medians of two runs part
+/// by, so that neither alone tells.
 pub fn run() {
     for taps in [31, 63, 293] {
         let ways = ways(taps);
@@ -95,23 +96,29 @@ pub fn run() {
                 })
             },
         ])
-        .map(|times| times.into_iter().fold(f64::INFINITY, f64::min));
+        .map(|mut times| {
+            let least = times.iter().copied().fold(f64::INFINITY, f64::min);
+            (median(&mut times), least)
+        });
         // The last of each pass is the same design.
         assert!(
             outs.iter().all(|out| *out == outs[0]),
             "a turn made other taps"
         );
         println!(
-            "turns, Kaiser            {taps:4} taps      design {design:8.3} us  new cutoff {cutoff:8.3} us  \
-             new beta {beta:8.3} us  rust {rust:8.3} us"
+            "turns, Kaiser            {taps:4} taps      design {:8.3} us  new cutoff {:8.3} us  \
+             new beta {:8.3} us  rust {:8.3} us",
+            design.0, cutoff.0, beta.0, rust.0,
         );
         println!(
-            "  new cutoff / design {:.3}, new beta / design {:.3}; of the Rust's design: new cutoff {:.2}, \
-             new beta {:.2}",
-            cutoff / design,
-            beta / design,
-            cutoff / rust,
-            beta / rust,
+            "  over a design, by medians and by the least: new cutoff {:.3}, {:.3}; new beta {:.3}, {:.3}; \
+             over the Rust's, by medians: {:.2}, {:.2}",
+            cutoff.0 / design.0,
+            cutoff.1 / design.1,
+            beta.0 / design.0,
+            beta.1 / design.1,
+            cutoff.0 / rust.0,
+            beta.0 / rust.0,
         );
     }
 }

@@ -62,7 +62,7 @@ pub fn time_design(
     print(name, count, what, times);
 }
 
-fn median(times: &mut [f64]) -> f64 {
+pub fn median(times: &mut [f64]) -> f64 {
     times.sort_by(f64::total_cmp);
     times[times.len() / 2]
 }
