@@ -12,6 +12,7 @@ use lib.ListN.{length, set, take, getD}
 use lib.Seq.{sets}
 use lib.Ieee.{Float, nan, ofBits, ofInt, round, add, sub, mul, div, neg, lt, le}
 use Rattle.laws.specs.Binary64.{_⊗_, _⊘_, whole, fact, over, nested}
+use Rattle.laws.specs.Every.{every, every-at}
 use Rattle.laws.specs.Filled.{filled, fill-more}
 use Rattle.laws.specs.Floor.{floorZ}
 use Rattle.laws.specs.Tests.{both}
@@ -111,17 +112,6 @@ order-is order h =
 
 -- ---- every quality is taken, so that a Butterworth filter's sections are never refused for it: the ten of even orders
 -- and the six of odd ones are evaluated
--- a test of every number below n
-unfoldable every : ℕ → (ℕ → Bool) → Bool
-every zero f = true
-every (suc n) f = f 0 && every n (λ k. f (suc k))
-
-every-at : (n : ℕ) (f : ℕ → Bool) → every n f ≡ true → (i : ℕ) → i < n → f i ≡ true
-unfolding every
-every-at zero f h i l = absurd (not-suc-le-zero l)
-every-at (suc n) f h zero l = both (f 0) (every n (λ k. f (suc k))) h .0
-every-at (suc n) f h (suc i) l = every-at n (λ k. f (suc k)) (both (f 0) (every n (λ k. f (suc k))) h .1) i (le-of-suc-le-suc l)
-
 sixteen : every 9 (λ order. every (order / 2) (λ i. qualityTaken (qualityOf order i))) ≡ true
 unfolding every qualityTaken qualityOf angleOf cosOf nested over fact floorOf absOf floorZ asFloat ofInt ofBits round add sub mul div neg lt le
 sixteen = refl

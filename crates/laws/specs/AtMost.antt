@@ -32,7 +32,8 @@ cross x y e e' n d E h q =
     let b : y * d * e ≡ n * e' * e = ap (λ (z : ℕ). z * e) q in
     le-of-mul-le-mul-right {k = e'} (omega arith) E
 
-of-test : (a b : ℕ) (v : Bool) → T (ltb a b || (eqb a b && v)) → a ≤ b
+-- a test of two values with their signs clear
+pub of-test : (a b : ℕ) (v : Bool) → T (ltb a b || (eqb a b && v)) → a ≤ b
 of-test a b v t = go (ltb a b) (eqb a b) (ltb→lt a b) (eqb→eq a b) t
   where
     go : (p q : Bool) → (T p → a < b) → (T q → a ≡ b) → T (p || (q && v)) → a ≤ b

@@ -26,3 +26,5 @@ pub mod Quotients
 pub mod Totals
 pub mod Codes
 pub mod CodeTotals
+pub mod Every
+pub mod Under

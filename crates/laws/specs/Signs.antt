@@ -73,6 +73,23 @@ mul-neg-both f (fin s m e) nan = refl
 mul-neg-both f (fin s m e) (inf t) = ap (λ (u : Bool). cond (eqb m 0) nan (inf u)) (unlike-both s t)
 mul-neg-both f (fin s m e) (fin t n d) = ap (λ (u : Bool). round f u (m * up e * (n * up d)) (down e * down d)) (unlike-both s t)
 
+-- the dividend
+pub div-neg : (f : Format) (x y : Float) → div f (neg x) y ≡ neg (div f x y)
+unfolding div neg
+div-neg f nan y = refl
+div-neg f (inf s) nan = refl
+div-neg f (inf s) (inf t) = refl
+div-neg f (inf s) (fin t n d) = ap inf (unlike-not s t)
+div-neg f (fin s m e) nan = refl
+div-neg f (fin s m e) (inf t) = ap (λ (u : Bool). fin u 0 (pos 0)) (unlike-not s t)
+div-neg f (fin s m e) (fin t n d) =
+    ap (λ (u : Bool). cond (eqb n 0) (cond (eqb m 0) nan (inf u)) (round f u (m * up e * down d) (n * up d * down e))) (unlike-not s t)
+    ∙ go (eqb n 0) (eqb m 0) (unlike s t) (m * up e * down d) (n * up d * down e)
+  where
+    go : (v w u : Bool) (a b : ℕ) → cond v (cond w nan (inf (not u))) (round f (not u) a b) ≡ neg (cond v (cond w nan (inf u)) (round f u a b))
+    go true w u a b = infinite-neg w u
+    go false w u a b = round-neg f u a b
+
 -- dividend and divisor
 pub div-neg-both : (f : Format) (x y : Float) → div f (neg x) (neg y) ≡ div f x y
 unfolding div neg
