@@ -1,9 +1,11 @@
 -- The power series of the modified Bessel function of order 0, in f64. Definitions only.
 --   I0(x) = Σ ((x/2)^k / k!)²,  k = 0, 1, 2, ..
--- It stops after the first term, k = 1 or more, that is below 1e-17 of the sum so far, or after k = 500.
+-- It stops after the first term, k = 1 or more, that is below 1e-17 of the sum so far, or after k = 500. It has settled
+-- where a term of those 500 was so small, and the sum is finite.
 use Prim.Native.Nat.{ℕ, zero, suc, _^_}
-use mathlib.Core.Bool.{Bool, true, false}
+use mathlib.Core.Bool.{Bool, true, false, _&&_}
 use lib.Ieee.{Float, lt}
+use lib.Ieee.Scale.{finite}
 use Rattle.laws.specs.Binary64.{_⊕_, _⊗_, _⊘_, whole, fraction}
 use Rattle.math_bessel.specs.declared.Series.{Series}
 
@@ -38,6 +40,15 @@ unfoldable pub termsOf : Float → ℕ
 unfolding firstSmall
 termsOf h = firstSmall h 499 (small h 1) 1
 
+-- "A series isn't settled if 500 terms passed without its stopping test being met, or its sum isn't finite": the last
+-- term taken is small unless none was. A sum that overflows ends the series at once, so the number of terms says nothing.
+unfoldable pub seriesAt : Float → Series
+unfolding termsOf partial small
+seriesAt h = record { sum = partial h (termsOf h); terms = termsOf h; settled = small h (termsOf h) && finite (partial h (termsOf h)) }
+
 unfoldable pub seriesOf : Float → Series
-unfolding termsOf partial
-seriesOf x = let h = x ⊘ whole 2 in record { sum = partial h (termsOf h); terms = termsOf h }
+unfolding seriesAt
+seriesOf x = seriesAt (x ⊘ whole 2)
+
+abbrev pub settled : Float → Bool
+settled x = seriesOf x .settled

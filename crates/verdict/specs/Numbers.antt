@@ -50,6 +50,10 @@ badSum = 10
 abbrev pub badElement : ℕ
 badElement = 11
 
+-- a Bessel series that hasn't settled
+abbrev pub notSettled : ℕ
+notSettled = 16
+
 -- ---- all of them
 abbrev pub refusals : List ℕ
-refusals = badRate ∷ badFrequency ∷ badTransition ∷ badAttenuation ∷ badShape ∷ badCount ∷ badCode ∷ badLength ∷ tooManyTaps ∷ badSum ∷ badElement ∷ []
+refusals = badRate ∷ badFrequency ∷ badTransition ∷ badAttenuation ∷ badShape ∷ badCount ∷ badCode ∷ badLength ∷ tooManyTaps ∷ badSum ∷ badElement ∷ notSettled ∷ []

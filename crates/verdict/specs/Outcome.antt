@@ -15,6 +15,11 @@ pub data Outcome : Type 0 where
   Designed : ℕ → Float → (ℕ → Float) → Outcome
   Refused : Refusal → Outcome
 
+-- a design for numbers that pass, else their refusal
+abbrev pub wherePassed : Verdict → Outcome → Outcome
+wherePassed Verdict.Done o = o
+wherePassed (Verdict.Refused why) o = Refused why
+
 -- ---- a buffer: filled, or as it came
 abbrev pub answered : Outcome → Verdict
 answered (Designed n sum tap) = Verdict.Done

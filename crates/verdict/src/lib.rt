@@ -26,6 +26,8 @@ pub const TOO_MANY_TAPS: u32 = 9;
 pub const BAD_SUM: u32 = 10;
 // An element that Q15 or Q14 can't take.
 pub const BAD_ELEMENT: u32 = 11;
+// A Bessel series that hasn't settled.
+pub const NOT_SETTLED: u32 = 16;
 
 // Why a ticket is refused: a shape with its number, so that a new number needs no new shape.
 pub enum Refusal {
@@ -68,7 +70,7 @@ pub struct Report {
     pub given: u64,
     // The element's index.
     pub index: u64,
-    // The results, where accepted.
+    // The results, where accepted; a series has them also where it is refused.
     pub count: u64,
     pub value: f64,
 }

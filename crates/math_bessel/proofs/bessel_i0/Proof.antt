@@ -10,9 +10,7 @@ rest-requires c κs = start (halfOf (c .args .x))
 
 returns : tie.Need-returns
 unfolding ofInt ofBits round
-returns c =
-    let r = c .rest in
-    series-is (c .before .args .x) (r .result .sum) (r .result .terms) (r .ensures .0) (r .ensures .1)
+returns c = series-is (c .before .args .x) (c .rest .ensures)
 
 pub bessel-i0-spec : {M : Type 1} → statement M
 bessel-i0-spec = tie.close (tie.spec rest-requires returns)

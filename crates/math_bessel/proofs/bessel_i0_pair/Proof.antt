@@ -47,7 +47,7 @@ returns : tie.Need-returns Inv-loop μ-loop
 unfolding ofInt ofBits round
 returns c =
     let a = c .before .before .before .before .args in
-    (sum-is (a .x) (c .before .rest .ensures .0), sum-is (a .y) (c .rest2 .ensures .0))
+    (sum-is (a .x) (c .before .rest .ensures), sum-is (a .y) (c .rest2 .ensures))
 
 pub bessel-i0-pair-spec : {M : Type 1} → statement M
 bessel-i0-pair-spec =

@@ -3,6 +3,7 @@
 use mathlib.Core.Path.{_≡_, refl}
 use Prim.Native.Nat.{_+_, _-_, _^_}
 use native.Mathlib.Omega.{arith}
+use borrow.Author.Needs.{needs}
 use lib.Dec.{le→leb}
 use lib.Ieee.{binary64, ofBits, ofInt, inFloat, round}
 use Rattle.laws.specs.Binary64.{whole}
@@ -27,12 +28,19 @@ int-to-float-d c = let l = c .before .pre .room in le→leb (c .before .args .k 
 loop-holds : tie.Need-loop-holds Inv-loop μ-loop
 loop-holds c = (c .before .pre, refl)
 
+has-settled-requires : tie.Need-has-settled-requires Inv-loop μ-loop
+has-settled-requires c κs = search needs
+
 returns : tie.Need-returns Inv-loop μ-loop
-returns c = at-last (c .before .loop .inv .0) (c .if1 .taken)
+unfolding ofInt ofBits round
+returns c = at-last (c .before .before .loop .inv .0) (c .has-settled .ensures) (c .before .if1 .taken)
+
+has-settled-requires-2 : tie.Need-has-settled-requires-2 Inv-loop μ-loop
+has-settled-requires-2 c κs = search needs
 
 returns-2 : tie.Need-returns-2 Inv-loop μ-loop
 unfolding ofInt ofBits round
-returns-2 c = at-small (c .before .before .loop .inv .0) (c .if2 .taken)
+returns-2 c = at-small (c .before .before .before .loop .inv .0) (c .has-settled2 .ensures) (c .before .if2 .taken)
 
 add-n : tie.Need-add-n Inv-loop μ-loop
 add-n c = let l = c .before .before .loop .inv .0 .room in omega arith
@@ -56,7 +64,9 @@ rest-spec =
     add-d
     int-to-float-d
     loop-holds
+    has-settled-requires
     returns
+    has-settled-requires-2
     returns-2
     add-n
     loop-less

@@ -1,0 +1,6 @@
+pub mod Steps
+pub mod Between
+pub mod Points
+pub mod Even
+pub mod Small
+pub mod Edge

@@ -1,0 +1,4 @@
+pub mod Settling
+pub mod Radicand
+pub mod Root
+pub mod SettlingLaws
