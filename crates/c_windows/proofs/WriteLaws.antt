@@ -1,20 +1,22 @@
 -- What is answered and what stands in the buffer, from what the code and the tests of a ticket said. Assumes nothing.
 use mathlib.Core.Path.{_≡_, _∙_}
 use mathlib.Core.List.{List}
-use mathlib.Core.Bool.{Bool, true, false, not}
 use Prim.Native.Nat.{ℕ, _-_, _/_, _%_}
-use borrow.Author.Tests.{eq-eqb, ne-eqb, not-true, not-false}
+use borrow.Author.Tests.{eq-eqb, ne-eqb}
 use lib.ListN.{length}
 use lib.Ieee.{Float}
 use Rattle.laws.specs.Binary64.{whole}
 use Rattle.laws.specs.Chunks.{chunks}
-use Rattle.verdict.specs.Numbers.{badAttenuation, badCode}
+use Rattle.verdict.specs.Numbers.{badCode}
+use Rattle.verdict.specs.declared.Refusal.{Refusal}
 use Rattle.verdict.specs.declared.Refusal.the-variants.{Plain, Length}
+use Rattle.verdict.specs.declared.Verdict.{Verdict}
+use Rattle.verdict.specs.declared.Verdict.the-variants.{Done, Refused}
 use Rattle.verdict.specs.declared.Report.{Report}
 use Rattle.verdict.specs.Report.{reportOf, acceptedOf}
 use Rattle.wire.specs.Writes.{Writes}
 use Rattle.wire.specs.WritesLaws.{leaves, fills}
-use Rattle.win_sampled.specs.Shapes.{shapeTaken, normOf, divisorOf, sampleAt, windowAt}
+use Rattle.win_sampled.specs.Shapes.{normOf, divisorOf, sampleAt, judgementOf, windowAt}
 use Rattle.win_sampled.specs.declared.shape.Shape.{Shape}
 use Rattle.win_sampled.specs.declared.shape.Symmetry.{Symmetry}
 use Rattle.c_windows.specs.declared.codes.Coded.{Coded}
@@ -35,10 +37,10 @@ module _ (s : Sample) (shape : Shape) {coded : Coded} {before : List ℕ} {r : R
     pub part-left : (length before % w ≡ 0 → ⊥) → r ≡ reportOf (Length (length before - length before % w) (length before)) → WritesWindow s shape coded before r before
     part-left part told = leaves (rw (known, ← e, ne-eqb (length before % w) 0 part)) told
 
-    module _ (all : length before % w ≡ 0) {taken : Bool} (test : taken ≡ shapeTaken shape) where
-      pub shape-refused : not taken ≡ true → r ≡ reportOf (Plain badAttenuation) → WritesWindow s shape coded before r before
-      shape-refused t told = leaves (rw (known, ← e, eq-eqb (length before % w) 0 all, ← test, not-true taken t)) told
+    module _ (all : length before % w ≡ 0) {judged : Verdict} (by : judged ≡ judgementOf shape symmetry (length before / w)) where
+      pub window-refused : {why : Refusal} → judged ≡ Refused why → r ≡ reportOf why → WritesWindow s shape coded before r before
+      window-refused t told = leaves (rw (known, ← e, eq-eqb (length before % w) 0 all, ← by, t)) told
 
       -- i0 and d are the definition's
-      pub window-written : {i0 : Float} {d : ℕ} {after : List ℕ} → not taken ≡ false → i0 ≡ normOf shape → d ≡ divisorOf symmetry (length before / w) → r ≡ acceptedOf (length before / w) (whole 0) → after ≡ chunks (length before / widthOf s) (λ i. sampleBytes s (sampleAt shape i0 d i)) → WritesWindow s shape coded before r after
-      window-written t n m told put = fills {tap = windowAt shape symmetry (length before / w)} (rw (known, ← e, eq-eqb (length before % w) 0 all, ← test, not-false taken t)) told (put ∙ rw (← e, n, m))
+      pub window-written : {i0 : Float} {d : ℕ} {after : List ℕ} → judged ≡ Done → i0 ≡ normOf shape → d ≡ divisorOf symmetry (length before / w) → r ≡ acceptedOf (length before / w) (whole 0) → after ≡ chunks (length before / widthOf s) (λ i. sampleBytes s (sampleAt shape i0 d i)) → WritesWindow s shape coded before r after
+      window-written t n m told put = fills {tap = windowAt shape symmetry (length before / w)} (rw (known, ← e, eq-eqb (length before % w) 0 all, ← by, t)) told (put ∙ rw (← e, n, m))

@@ -47,7 +47,8 @@ pub extern "C" fn pel_blackman_harris_q15(symmetry: u64, out: &mut [u8]) -> Repo
 }
 
 // Kaiser's window with beta as f32s, as pel_hann_f32; refused besides, last: 4 a beta that isn't finite and not
-// negative, also for an empty buffer.
+// negative, also for an empty buffer; 16 a series at beta or at a sample that hasn't settled, as at a beta above about
+// 714. An empty buffer and one symmetric sample take no series.
 #[no_mangle]
 pub extern "C" fn pel_kaiser_f32(beta: f64, symmetry: u64, out: &mut [u8]) -> Report
     ensures { λ r. ⌜ Writes (sampleBytes Single) (windowBytes Single (Kaiser beta) (symmetryOf symmetry) (length (now (out .entry)))) (now (out .entry)) r (now (out .exit)) ⌝ }
@@ -55,7 +56,7 @@ pub extern "C" fn pel_kaiser_f32(beta: f64, symmetry: u64, out: &mut [u8]) -> Re
     write_window(Shape::Kaiser(beta), symmetry, Sample::Single, &mut *out)
 }
 
-// The same as Q15 numbers; a NaN is 0.
+// The same as Q15 numbers.
 #[no_mangle]
 pub extern "C" fn pel_kaiser_q15(beta: f64, symmetry: u64, out: &mut [u8]) -> Report
     ensures { λ r. ⌜ Writes (sampleBytes Q15) (windowBytes Q15 (Kaiser beta) (symmetryOf symmetry) (length (now (out .entry)))) (now (out .entry)) r (now (out .exit)) ⌝ }

@@ -4,16 +4,16 @@ use super::codes::symmetry_of;
 use super::sample::Sample;
 use super::sample::store;
 use super::sample::width;
-use verdict::BAD_ATTENUATION;
 use verdict::BAD_CODE;
 use verdict::Refusal;
 use verdict::Report;
+use verdict::Verdict;
 use win_sampled::shape::Shape;
 use win_sampled::shape::arguments_of;
 use win_sampled::shape::divisor;
+use win_sampled::shape::judge;
 use win_sampled::shape::norm;
 use win_sampled::shape::place_at;
-use win_sampled::shape::takes_shape;
 use win_sampled::shape::value_at;
 use win_sampled::shape::values_at;
 ghost use mathlib.Core.Path.{_≡_};
@@ -70,12 +70,15 @@ pub(crate) fn write_window(shape: Shape, code: u64, sample: Sample, out: &mut [u
             if len % wide != 0 {
                 return verdict::refused(Refusal::Length(len - len % wide, len));
             }
-            if !takes_shape(shape) {
-                return verdict::refused(Refusal::Plain(BAD_ATTENUATION));
-            }
             let n = len / wide;
-            put_samples(shape, norm(shape), divisor(symmetry, n), sample, &mut *out);
-            verdict::accepted(n, 0.0)
+            let judged = judge(shape, symmetry, n);
+            match judged {
+                Verdict::Done => {
+                    put_samples(shape, norm(shape), divisor(symmetry, n), sample, &mut *out);
+                    verdict::accepted(n, 0.0)
+                }
+                Verdict::Refused(why) => verdict::refused(why),
+            }
         }
         Coded::Unknown => verdict::refused(Refusal::Plain(BAD_CODE)),
     }

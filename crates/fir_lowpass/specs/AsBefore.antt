@@ -1,5 +1,6 @@
--- The low-pass is what it was before its record kept the value that its window is divided by: the definition that stood
--- then, its five tests one inside the other, comes to the same, tap for tap. Assumes nothing.
+-- Where every series settles, the low-pass is what it was before that was asked, and before its record kept the value
+-- that its window is divided by: the definition that stood then, its five tests one inside the other, comes to the
+-- same, tap for tap. Assumes nothing.
 use Prim.Native.Nat.{ℕ}
 use mathlib.Core.Path.{_≡_, refl}
 use mathlib.Core.Bool.{Bool, true, false, cond}
@@ -8,7 +9,7 @@ use lib.Ieee.{Float, binary64}
 use Rattle.laws.specs.Binary64.{_⊘_, whole}
 use Rattle.laws.specs.Sums.{sumTo}
 use Rattle.math_numbers.specs.Numbers.{positive}
-use Rattle.verdict.specs.Numbers.{badRate, badFrequency, badAttenuation, badCount, badSum}
+use Rattle.verdict.specs.Numbers.{badRate, badFrequency, badAttenuation, badCount, badSum, notSettled}
 use Rattle.verdict.specs.declared.Refusal.the-variants.{Plain, Range}
 use Rattle.verdict.specs.declared.Verdict.the-variants as Verdict
 use Rattle.verdict.specs.Outcome.{Outcome}
@@ -16,7 +17,7 @@ use Rattle.verdict.specs.Outcome as Outcome
 use Rattle.fir_sinc.specs.Windows.{normOf}
 use Rattle.fir_sinc.specs.Taps.{rawAt}
 use Rattle.fir_sinc.specs.declared.window.Window.{Window}
-use Rattle.fir_lowpass.specs.Lowpass.{divisorOf, inside, countTaken, betaTaken, usable, judgementOf, designOf, wherePassed, lowpassWith, lowpassOf, tapOf, outcomeOf}
+use Rattle.fir_lowpass.specs.Lowpass.{divisorOf, inside, countTaken, betaTaken, seriesSettle, usable, judgementOf, designOf, wherePassed, lowpassWith, lowpassOf, tapOf, outcomeOf}
 use Rattle.fir_lowpass.specs.declared.lowpass.Designed.the-variants.{Ready, Refused}
 
 unfoldable pub lowpassBefore : Float → Float → Window → ℕ → Outcome
@@ -35,9 +36,9 @@ lowpassBefore cutoff rate w n =
     (Outcome.Refused (Range badFrequency (whole 0) (rate ⊘ whole 2) cutoff)))
     (Outcome.Refused (Plain badRate))
 
-pub as-before : (cutoff rate : Float) (w : Window) (n : ℕ) → outcomeOf (lowpassOf cutoff rate w n) ≡ lowpassBefore cutoff rate w n
+pub as-before : (cutoff rate : Float) (w : Window) (n : ℕ) → seriesSettle w n ≡ true → outcomeOf (lowpassOf cutoff rate w n) ≡ lowpassBefore cutoff rate w n
 unfolding lowpassOf lowpassWith judgementOf designOf divisorOf tapOf lowpassBefore
-as-before cutoff rate w n = go (positive rate) (inside (cutoff ⊘ rate)) (countTaken n) (betaTaken w) (usable (sumTo binary64 (rawAt (cutoff ⊘ rate) w (normOf w) n) n))
+as-before cutoff rate w n settles = rw settles (go (positive rate) (inside (cutoff ⊘ rate)) (countTaken n) (betaTaken w) (usable (sumTo binary64 (rawAt (cutoff ⊘ rate) w (normOf w) n) n)))
   where
     fc : Float
     fc = cutoff ⊘ rate

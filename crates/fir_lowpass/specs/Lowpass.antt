@@ -1,6 +1,6 @@
 -- The windowed-sinc low-pass of n taps with the cutoff fc, a fraction of the rate. Definitions only.
 --   tap i is h[i] / Σ h, with the raw taps h of `fir_sinc/Taps`; the window is divided by i0, the series at its beta
-use Prim.Native.Nat.{ℕ}
+use Prim.Native.Nat.{ℕ, _-_}
 use mathlib.Core.Bool.{Bool, true, cond, _&&_}
 use mathlib.Core.List.{List}
 use lib.Dec.{ltb, leb}
@@ -10,12 +10,13 @@ use Rattle.laws.specs.Binary64.{_⊘_, whole, fraction}
 use Rattle.laws.specs.Filled.{tabulate}
 use Rattle.laws.specs.Sums.{sumTo}
 use Rattle.math_numbers.specs.Numbers.{positive}
-use Rattle.verdict.specs.Numbers.{badRate, badFrequency, badAttenuation, badCount, badSum}
+use Rattle.verdict.specs.Numbers.{badRate, badFrequency, badAttenuation, badCount, badSum, notSettled}
 use Rattle.verdict.specs.declared.Refusal.the-variants.{Plain, Range}
 use Rattle.verdict.specs.declared.Verdict.{Verdict}
 use Rattle.verdict.specs.declared.Verdict.the-variants as Verdict
 use Rattle.verdict.specs.Outcome.{Outcome}
 use Rattle.verdict.specs.Outcome as Outcome
+use Rattle.win_settling.specs.Settling.{kaiserSettles}
 use Rattle.fir_sinc.specs.Windows.{normOf}
 use Rattle.fir_sinc.specs.Taps.{rawAt}
 use Rattle.fir_sinc.specs.declared.window.Window.{Window}
@@ -41,18 +42,27 @@ betaTaken Hamming = true
 betaTaken Blackman = true
 betaTaken (Kaiser beta) = finite beta && le (whole 0) beta
 
+-- every series that n taps take has settled: Kaiser's at beta and at each tap, of which one tap takes none
+unfoldable pub seriesSettle : Window → ℕ → Bool
+seriesSettle Hann n = true
+seriesSettle Hamming n = true
+seriesSettle Blackman n = true
+seriesSettle (Kaiser beta) n = kaiserSettles beta (n - 1) n
+
 unfoldable pub usable : Float → Bool
 usable s = finite s && ne s (whole 0)
 
 -- the numbers of a ticket, in this order
 unfoldable pub judgementOf : Float → Float → Window → ℕ → Verdict
-unfolding inside countTaken betaTaken
+unfolding inside countTaken betaTaken seriesSettle
 judgementOf cutoff rate w n =
     cond (positive rate)
     (cond (inside (cutoff ⊘ rate))
     (cond (countTaken n)
     (cond (betaTaken w)
+    (cond (seriesSettle w n)
     Verdict.Done
+    (Verdict.Refused (Plain notSettled)))
     (Verdict.Refused (Plain badAttenuation)))
     (Verdict.Refused (Plain badCount)))
     (Verdict.Refused (Range badFrequency (whole 0) (rate ⊘ whole 2) cutoff)))

@@ -11,7 +11,7 @@ use lib.Ieee.{Float}
 use Rattle.laws.specs.Binary64.{_⊘_, whole}
 use Rattle.laws.specs.Tests.{both}
 use Rattle.math_numbers.specs.Numbers.{positive}
-use Rattle.verdict.specs.Numbers.{badRate, badFrequency, badAttenuation, badCount, badSum}
+use Rattle.verdict.specs.Numbers.{badRate, badFrequency, badAttenuation, badCount, badSum, notSettled}
 use Rattle.verdict.specs.declared.Refusal.{Refusal}
 use Rattle.verdict.specs.declared.Refusal.the-variants.{Plain, Range}
 use Rattle.verdict.specs.Outcome.{Fills}
@@ -19,7 +19,7 @@ use Rattle.verdict.specs.OutcomeLaws as Outcome
 use Rattle.fir_sinc.specs.Windows.{normOf}
 use Rattle.fir_sinc.specs.Taps.{rawAt}
 use Rattle.fir_cache.specs.Cached.{CachesOf}
-use Rattle.fir_lowpass.specs.Lowpass.{divisorOf, inside, countTaken, betaTaken, usable, judgementOf, designOf, wherePassed, lowpassWith, lowpassOf, tapsOf, outcomeOf}
+use Rattle.fir_lowpass.specs.Lowpass.{divisorOf, inside, countTaken, betaTaken, seriesSettle, usable, judgementOf, designOf, wherePassed, lowpassWith, lowpassOf, tapsOf, outcomeOf}
 use Rattle.fir_lowpass.specs.Cached.{Caches, PreparesLowpass}
 use Rattle.fir_sinc.specs.declared.window.Window.{Window}
 use Rattle.fir_lowpass.specs.declared.lowpass.Lowpass.{Lowpass}
@@ -48,9 +48,14 @@ module _ (cutoff rate : Float) (w : Window) (n : ℕ) where
   module _ (a : positive rate ≡ true) where
     module _ (b : inside (cutoff ⊘ rate) ≡ true) where
       module _ (c : countTaken n ≡ true) where
-        pub passes : betaTaken w ≡ true → judgementOf cutoff rate w n ≡ Verdict.Done
-        unfolding judgementOf
-        passes d = rw (a, b, c, d)
+        module _ (d : betaTaken w ≡ true) where
+          pub passes : seriesSettle w n ≡ true → judgementOf cutoff rate w n ≡ Verdict.Done
+          unfolding judgementOf
+          passes e = rw (a, b, c, d, e)
+
+          pub no-series : seriesSettle w n ≡ false → judgementOf cutoff rate w n ≡ Verdict.Refused (Plain notSettled)
+          unfolding judgementOf
+          no-series e = rw (a, b, c, d, e)
 
         pub no-beta : betaTaken w ≡ false → judgementOf cutoff rate w n ≡ Verdict.Refused (Plain badAttenuation)
         unfolding judgementOf
@@ -74,22 +79,24 @@ pub record Passed (cutoff rate : Float) (w : Window) (n : ℕ) : Type 0 where
   pub inner : inside (cutoff ⊘ rate) ≡ true
   pub counted : countTaken n ≡ true
   pub shaped : betaTaken w ≡ true
+  pub settles : seriesSettle w n ≡ true
 
 pub passed : (cutoff rate : Float) (w : Window) (n : ℕ) → judgementOf cutoff rate w n ≡ Verdict.Done → Passed cutoff rate w n
 unfolding judgementOf
-passed cutoff rate w n e = go (positive rate) (inside (cutoff ⊘ rate)) (countTaken n) (betaTaken w) refl refl refl refl e
+passed cutoff rate w n g = go (positive rate) (inside (cutoff ⊘ rate)) (countTaken n) (betaTaken w) (seriesSettle w n) refl refl refl refl refl g
   where
     never-done : (why : Refusal) → Verdict.Refused why ≡ Verdict.Done → ⊥
     never-done why g = let z : _≡_ {A = ℕ} 0 1 = cc in omega arith
 
-    go : (a b c d : Bool) → positive rate ≡ a → inside (cutoff ⊘ rate) ≡ b → countTaken n ≡ c → betaTaken w ≡ d
-        → cond a (cond b (cond c (cond d Verdict.Done (Verdict.Refused (Plain badAttenuation))) (Verdict.Refused (Plain badCount))) (Verdict.Refused (Range badFrequency (whole 0) (rate ⊘ whole 2) cutoff))) (Verdict.Refused (Plain badRate)) ≡ Verdict.Done
+    go : (a b c d e : Bool) → positive rate ≡ a → inside (cutoff ⊘ rate) ≡ b → countTaken n ≡ c → betaTaken w ≡ d → seriesSettle w n ≡ e
+        → cond a (cond b (cond c (cond d (cond e Verdict.Done (Verdict.Refused (Plain notSettled))) (Verdict.Refused (Plain badAttenuation))) (Verdict.Refused (Plain badCount))) (Verdict.Refused (Range badFrequency (whole 0) (rate ⊘ whole 2) cutoff))) (Verdict.Refused (Plain badRate)) ≡ Verdict.Done
         → Passed cutoff rate w n
-    go true true true true a b c d e = record { rated = a; inner = b; counted = c; shaped = d }
-    go true true true false a b c d e = absurd (never-done (Plain badAttenuation) e)
-    go true true false x a b c d e = absurd (never-done (Plain badCount) e)
-    go true false x y a b c d e = absurd (never-done (Range badFrequency (whole 0) (rate ⊘ whole 2) cutoff) e)
-    go false x y z a b c d e = absurd (never-done (Plain badRate) e)
+    go true true true true true a b c d e g = record { rated = a; inner = b; counted = c; shaped = d; settles = e }
+    go true true true true false a b c d e g = absurd (never-done (Plain notSettled) g)
+    go true true true false x a b c d e g = absurd (never-done (Plain badAttenuation) g)
+    go true true false x y a b c d e g = absurd (never-done (Plain badCount) g)
+    go true false x y z a b c d e g = absurd (never-done (Range badFrequency (whole 0) (rate ⊘ whole 2) cutoff) g)
+    go false x y z u a b c d e g = absurd (never-done (Plain badRate) g)
 
 -- ---- the design, from what the test of the sum said
 abbrev pub designed : Float → Window → Float → ℕ → Lowpass

@@ -9,11 +9,12 @@ use verdict::BAD_COUNT;
 use verdict::BAD_FREQUENCY;
 use verdict::BAD_RATE;
 use verdict::BAD_SUM;
+use verdict::NOT_SETTLED;
 use verdict::Refusal;
 use verdict::Verdict;
 ghost use mathlib.Core.Path.{_≡_};
-ghost use Prim.Native.Nat.{_≤_};
-ghost use Rattle.fir_lowpass.specs.Lowpass.{inside, countTaken, betaTaken, usable, judgementOf, designOf, lowpassWith, lowpassOf, tapOf};
+ghost use Prim.Native.Nat.{_<_, _≤_};
+ghost use Rattle.fir_lowpass.specs.Lowpass.{inside, countTaken, betaTaken, seriesSettle, usable, judgementOf, designOf, lowpassWith, lowpassOf, tapOf};
 ghost use Rattle.fir_lowpass.specs.Cached.{Caches, PreparesLowpass};
 
 // A design: how many taps, the cutoff as a fraction of the rate, the window, the value that the window is divided by
@@ -58,6 +59,19 @@ fn takes_beta(w: Window) -> bool
     }
 }
 
+// Whether every series that n taps take has settled: Kaiser's at beta and at each tap. One tap takes none.
+fn series_settle(w: Window, n: u64) -> bool
+    requires { ⌜ 0 < n ⌝ }
+    ensures { λ r. ⌜ r ≡ seriesSettle w n ⌝ }
+{
+    match w {
+        Window::Hann => true,
+        Window::Hamming => true,
+        Window::Blackman => true,
+        Window::Kaiser(beta) => win_settling::settles(beta, n - 1, n),
+    }
+}
+
 // Whether taps can be divided by s.
 pub fn is_usable(s: f64) -> bool
     ensures { λ r. ⌜ r ≡ usable s ⌝ }
@@ -66,7 +80,8 @@ pub fn is_usable(s: f64) -> bool
 }
 
 // The numbers of a ticket. Refused, in this order: 1 a rate that isn't finite and positive; 2 with 0, rate/2, cutoff
-// where cutoff/rate isn't between 0 and 1/2; 6 no taps or more than 2^24; 4 a beta that isn't finite and not negative.
+// where cutoff/rate isn't between 0 and 1/2; 6 no taps or more than 2^24; 4 a beta that isn't finite and not negative;
+// 16 a series at beta or at a tap that hasn't settled, where there are more taps than one.
 fn judge(cutoff: f64, rate: f64, window: Window, n: u64) -> Verdict
     ensures { λ r. ⌜ r ≡ judgementOf cutoff rate window n ⌝ }
 {
@@ -81,6 +96,9 @@ fn judge(cutoff: f64, rate: f64, window: Window, n: u64) -> Verdict
     }
     if !takes_beta(window) {
         return Verdict::Refused(Refusal::Plain(BAD_ATTENUATION));
+    }
+    if !series_settle(window, n) {
+        return Verdict::Refused(Refusal::Plain(NOT_SETTLED));
     }
     Verdict::Done
 }
@@ -105,7 +123,8 @@ fn build(fc: f64, window: Window, i0: f64, n: u64, raws: &mut [f64]) -> Designed
 
 // The design of a low-pass. Refused, in this order: 1 a rate that isn't finite and positive; 2 with 0, rate/2, cutoff
 // where cutoff/rate isn't between 0 and 1/2; 6 no taps or more than 2^24; 4 a beta that isn't finite and not negative;
-// 10 a sum of the raw taps that is 0 or not finite.
+// 16 a series at beta or at a tap that hasn't settled, where there are more taps than one; 10 a sum of the raw taps that
+// is 0 or not finite.
 // The first raw taps are left in `raws`, as many as it has places.
 pub fn prepare(cutoff: f64, rate: f64, window: Window, n: u64, raws: &mut [f64]) -> Designed
     ensures { λ r. ⌜ PreparesLowpass (lowpassOf cutoff rate window n) r (now (raws .exit)) ⌝ }

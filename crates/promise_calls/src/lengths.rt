@@ -1,7 +1,7 @@
 // Lengths, half samples of delay and single numbers: the number is 0 exactly where there is one, else one of the
-// refusals'. The half of a delay is kept besides.
+// refusals'. The half of a delay is kept besides, and so are the terms and the sum of a series.
 use verdict::Report;
-ghost use mathlib.Core.Path.{_≡_};
+ghost use Rattle.math_bessel.specs.Series.{seriesOf};
 ghost use Rattle.fir_length.specs.Kaiser.{orderOf, halfbandLenOf};
 ghost use Rattle.fir_delay.specs.Delay.{delayOf};
 ghost use Rattle.fir_spec.specs.Spec.{numTapsOf};
@@ -11,8 +11,9 @@ ghost use Rattle.fmt_q15.specs.Q15.{q15TapOf};
 ghost use Rattle.fmt_q14.specs.Q14.{q14TapOf};
 ghost use Rattle.c_lowpass.specs.Spec.{specOf};
 ghost use Rattle.c_math.specs.Delays.{KeepsHalf};
+ghost use Rattle.c_math.specs.SeriesTold.{KeepsSum};
 ghost use Rattle.promise_refusals.specs.Demand.{Numbered};
-ghost use Rattle.promise_refusals.specs.Verdicts.{ofLength, ofOrder, ofDelay, ofCoded};
+ghost use Rattle.promise_refusals.specs.Verdicts.{ofLength, ofOrder, ofDelay, ofCoded, ofSeries};
 
 pub fn kaiserord(ripple: f64, transition: f64, rate: f64) -> Report
     ensures { λ r. ⌜ Numbered (ofOrder (orderOf ripple transition rate)) (r .number) ⌝ }
@@ -73,9 +74,9 @@ pub fn q14_from_f64(x: f64) -> Report
     c_math::single::pel_q14_from_f64(x)
 }
 
-// The series has a value for every number.
+// The series has its number of terms and its sum for every argument, also where it hasn't settled.
 pub fn bessel_i0(x: f64) -> Report
-    ensures { λ r. ⌜ r .number ≡ 0 ⌝ }
+    ensures { λ r. ⌜ Numbered (ofSeries (seriesOf x)) (r .number) ⌝ ∗ ⌜ KeepsSum x r ⌝ }
 {
     c_math::shape::pel_bessel_i0(x)
 }

@@ -22,6 +22,7 @@ use Rattle.fir_channelizer.specs.Channelizer as Channelizer
 use Rattle.iir_biquad.specs.Biquad.{biquadOf}
 use Rattle.iir_biquad.specs.Preemphasis.{preemphasisOf}
 use Rattle.iir_butterworth.specs.Butterworth.{butterworthOf}
+use Rattle.win_sampled.specs.Shapes.{judgementOf}
 use Rattle.win_sampled.specs.declared.shape.Shape.{Shape}
 use Rattle.c_lowpass.specs.Lowpass.{lowpassCoded, lowpassBytes}
 use Rattle.c_lowpass.specs.Spec.{specBytes}
@@ -41,7 +42,7 @@ use Rattle.c_windows.specs.declared.codes.Coded.the-variants as Symmetry
 use Rattle.c_windows.specs.declared.sample.Sample.{Sample}
 use Rattle.promise_refusals.specs.Demand.{listed}
 use Rattle.promise_refusals.specs.Listed.{Listed}
-use Rattle.promise_refusals.specs.Judgements.{whole-listed, with-listed, lowpass-listed, spec-design-listed, halfband-listed, gaussian-listed, gaussian-fitted-listed, rrc-listed, rrc-fitted-listed, channelizer-listed, channelizer-fitted-listed, biquad-listed, preemphasis-listed, butterworth-listed, shape-listed}
+use Rattle.promise_refusals.specs.Judgements.{whole-listed, with-listed, lowpass-listed, spec-design-listed, halfband-listed, gaussian-listed, gaussian-fitted-listed, rrc-listed, rrc-fitted-listed, channelizer-listed, channelizer-fitted-listed, biquad-listed, preemphasis-listed, butterworth-listed, window-listed, where-listed}
 
 -- ---- the low-pass, by the window's code
 pub lowpass-coded : (cutoff rate : Float) (c : WindowCode.Coded) (n : ℕ) → Listed (answered (Lowpass.outcomeOf (lowpassCoded cutoff rate c n)))
@@ -108,5 +109,5 @@ butterworth-bytes Response.Unknown order cutoff rate len = tt
 -- ---- windows
 pub window-bytes : (s : Sample) (shape : Shape) (c : SymmetryCode.Coded) (len : ℕ) → Listed (answered (windowBytes s shape c len))
 unfolding reportOf listed
-window-bytes s shape (Symmetry.Known symmetry) len = whole-listed (widthOf s) len _ (shape-listed shape _ tt)
+window-bytes s shape (Symmetry.Known symmetry) len = whole-listed (widthOf s) len _ (where-listed (judgementOf shape symmetry (len / widthOf s)) _ (window-listed shape symmetry (len / widthOf s)) tt)
 window-bytes s shape Symmetry.Unknown len = tt

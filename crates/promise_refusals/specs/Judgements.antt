@@ -13,7 +13,7 @@ use Rattle.laws.specs.Prefix.{firstBad}
 use Rattle.math_numbers.specs.Numbers.{positive}
 use Rattle.math_round.specs.Whole.{absOf}
 use Rattle.verdict.specs.Report.{reportOf}
-use Rattle.verdict.specs.Outcome.{Outcome, answered}
+use Rattle.verdict.specs.Outcome.{Outcome, answered, wherePassed}
 use Rattle.verdict.specs.Outcome as Outcome
 use Rattle.verdict.specs.Converts.{takenOf, groupsOf, thenOf}
 use Rattle.verdict.specs.declared.Refusal.{Refusal}
@@ -28,8 +28,10 @@ use Rattle.fmt_q14.specs.Q14 as Q14
 use Rattle.fmt_f32.specs.Single.{anyOutside}
 use Rattle.fmt_q15.specs.declared.q15.Coded.{Coded}
 use Rattle.fmt_q15.specs.declared.q15.Coded.the-variants as Coded
-use Rattle.win_sampled.specs.Shapes.{shapeTaken}
+use Rattle.math_bessel.specs.declared.Series.{Series}
+use Rattle.win_sampled.specs.Shapes.{shapeTaken, divisorOf, seriesSettle, judgementOf}
 use Rattle.win_sampled.specs.declared.shape.Shape.{Shape}
+use Rattle.win_sampled.specs.declared.shape.Symmetry.{Symmetry}
 use Rattle.fir_length.specs.Kaiser.{betaOf, estimate, orderOf, lengthened, halfbandLenOf}
 use Rattle.fir_length.specs.declared.order.Order.{Order}
 use Rattle.fir_length.specs.declared.order.Order.the-variants as Order
@@ -62,7 +64,7 @@ use Rattle.c_formats.specs.declared.element.Format.the-variants as Format
 use Rattle.c_formats.specs.Formats.{takesOf, outsideOf}
 use Rattle.c_formats.specs.Conversions.{lengthsOf}
 use Rattle.promise_refusals.specs.Demand.{listed}
-use Rattle.promise_refusals.specs.Verdicts.{ofLength, ofOrder, ofDelay, ofCoded, ofSamples}
+use Rattle.promise_refusals.specs.Verdicts.{ofLength, ofOrder, ofDelay, ofCoded, ofSeries, ofSamples}
 use Rattle.promise_refusals.specs.Listed.{Listed}
 
 -- ---- a length of elements of w bytes
@@ -83,7 +85,7 @@ module _ (cutoff rate : Float) (w : Window) (n : ℕ) where
   unfolding Lowpass.judgementOf reportOf listed
   judgement-listed =
       let way = either-way Listed in
-      way (positive rate) _ _ (way (Lowpass.inside (cutoff ⊘ rate)) _ _ (way (Lowpass.countTaken n) _ _ (way (Lowpass.betaTaken w) _ _ tt tt) tt) tt) tt
+      way (positive rate) _ _ (way (Lowpass.inside (cutoff ⊘ rate)) _ _ (way (Lowpass.countTaken n) _ _ (way (Lowpass.betaTaken w) _ _ (way (Lowpass.seriesSettle w n) _ _ tt tt) tt) tt) tt) tt
 
   -- whatever its window is divided by
   pub with-listed : (i0 : Float) → LowpassListed (Lowpass.lowpassWith cutoff rate w i0 n)
@@ -300,9 +302,20 @@ then-listed Done w l m = m
 then-listed (Refused why) w l m = l
 
 -- ---- windows
-pub shape-listed : (shape : Shape) (o : Outcome) → Listed (answered o) → Listed (answered (cond (shapeTaken shape) o (Outcome.Refused (Refusal.Plain 4))))
+pub window-listed : (shape : Shape) (symmetry : Symmetry) (n : ℕ) → Listed (judgementOf shape symmetry n)
+unfolding judgementOf reportOf listed
+window-listed shape symmetry n =
+    let way = either-way Listed in
+    way (shapeTaken shape) _ _ (way (seriesSettle shape (divisorOf symmetry n) n) _ _ tt tt) tt
+
+pub where-listed : (v : Verdict) (o : Outcome) → Listed v → Listed (answered o) → Listed (answered (wherePassed v o))
+where-listed Done o l x = x
+where-listed (Refused why) o l x = l
+
+-- ---- the series, and a window's gain
+pub series-listed : (s : Series) → Listed (ofSeries s)
 unfolding reportOf listed
-shape-listed shape o l = either-way (λ (p : Outcome). Listed (answered p)) (shapeTaken shape) o _ l tt
+series-listed s = either-way Listed (s .settled) _ _ tt tt
 
 pub samples-listed : (s : List ℕ) → Listed (ofSamples s)
 unfolding reportOf listed

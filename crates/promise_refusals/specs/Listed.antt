@@ -1,5 +1,5 @@
--- The refusals' numbers are 1 to as many as there are, and what a caller hears of a verdict whose refusal has one of
--- them is what demand 1 says. Assumes nothing.
+-- The refusals' numbers are 1 to 11 and 16, and what a caller hears of a verdict whose refusal has one of them is what
+-- demand 1 says. Assumes nothing.
 use Prim.Native.Nat.{ℕ, _-_, _%_, _≤_}
 use mathlib.Core.Path.{_≡_, refl, sym, ap, _∙_, subst}
 use mathlib.Core.Bool.{Bool, true, false, cond, _&&_, _||_}
@@ -12,7 +12,7 @@ use lib.ListN.{length}
 use lib.Ieee.Bits.{is-true}
 use lib.Ieee.Fits.{and-l, and-r}
 use Rattle.laws.specs.Cases.{either}
-use Rattle.verdict.specs.Numbers.{refusals, badLength}
+use Rattle.verdict.specs.Numbers.{refusals, badLength, notSettled}
 use Rattle.verdict.specs.Report.{reportOf, acceptedOf}
 use Rattle.verdict.specs.Reports.{lengthReport, outcomeReport, doneReport}
 use Rattle.verdict.specs.Outcome.{Outcome, answered}
@@ -30,11 +30,12 @@ use Rattle.fir_delay.specs.declared.Delayed.{Delayed}
 use Rattle.fir_delay.specs.declared.Delayed.the-variants as Delayed
 use Rattle.fmt_q15.specs.declared.q15.Coded.{Coded}
 use Rattle.fmt_q15.specs.declared.q15.Coded.the-variants as Coded
-use Rattle.c_math.specs.Reports.{orderReport, delayReport, codedReport}
+use Rattle.math_bessel.specs.declared.Series.{Series}
+use Rattle.c_math.specs.Reports.{orderReport, delayReport, codedReport, unsettledOf, seriesReport}
 use Rattle.c_gain.specs.Level.{gainReport}
 use Rattle.c_gain.specs.declared.level.GainReport.{GainReport}
 use Rattle.promise_refusals.specs.Demand.{listed, IsRefusal, Numbered}
-use Rattle.promise_refusals.specs.Verdicts.{ofLength, ofOrder, ofDelay, ofCoded, ofSamples}
+use Rattle.promise_refusals.specs.Verdicts.{ofLength, ofOrder, ofDelay, ofCoded, ofSeries, ofSamples}
 
 -- ---- the list
 unfoldable every : (ℕ → Bool) → List ℕ → Bool
@@ -51,21 +52,24 @@ one-of p k (n ∷ ns) h l = go (eqb k n) (eqb-true k n) (λ m. one-of p k ns (an
     go true e rest l = subst (λ (m : ℕ). T (p m)) (sym (e refl)) (and-l (p n) (every p ns) h)
     go false e rest l = rest l
 
-abbrev inRange : ℕ → Bool
-inRange k = leb 1 k && leb k (length refusals)
+abbrev isKnown : ℕ → Bool
+isKnown k = (leb 1 k && leb k 11) || eqb k 16
 
-all-in-range : T (every inRange refusals)
+all-known : T (every isKnown refusals)
 unfolding every
-all-in-range = tt
+all-known = tt
 
--- "1 to 11"
-pub between : (k : ℕ) → IsRefusal k → (1 ≤ k) × (k ≤ length refusals)
-between k l =
-    let h = one-of inRange k refusals all-in-range l in
-    (leb-true 1 k (is-true (leb 1 k) (and-l (leb 1 k) (leb k (length refusals)) h)), leb-true k (length refusals) (is-true (leb k (length refusals)) (and-r (leb 1 k) (leb k (length refusals)) h)))
+-- "1 to 11", and 16
+pub between : (k : ℕ) → IsRefusal k → ((1 ≤ k) × (k ≤ 11)) ⊎ (k ≡ 16)
+between k l = go (leb 1 k) (leb k 11) (leb-true 1 k) (leb-true k 11) (one-of isKnown k refusals all-known l)
+  where
+    go : (a b : Bool) → (a ≡ true → 1 ≤ k) → (b ≡ true → k ≤ 11) → T ((a && b) || eqb k 16) → ((1 ≤ k) × (k ≤ 11)) ⊎ (k ≡ 16)
+    go true true f g h = inl (f refl, g refl)
+    go true false f g h = inr (eqb-true k 16 (is-true (eqb k 16) h))
+    go false b f g h = inr (eqb-true k 16 (is-true (eqb k 16) h))
 
 pub never-zero : (k : ℕ) → IsRefusal k → k ≡ 0 → ⊥
-never-zero k l e = omega (arith, between k l .0, e)
+never-zero k l e = either (between k l) (λ r. omega (arith, r .0, e)) (λ r. omega (arith, r, e))
 
 -- ---- a verdict
 -- the number that its caller hears
@@ -89,8 +93,8 @@ numbered (Refused why) {k} e l = record {
   only = λ z. absurd (never-zero (reportOf why .number) l (sym e ∙ z));
 }
 
--- "the number is 0 or one of 1 to 11"
-pub zero-or-between : {v : Verdict} {k : ℕ} → Numbered v k → (k ≡ 0) ⊎ ((1 ≤ k) × (k ≤ length refusals))
+-- "the number is 0 or one of 1 to 11", or 16
+pub zero-or-between : {v : Verdict} {k : ℕ} → Numbered v k → (k ≡ 0) ⊎ (((1 ≤ k) × (k ≤ 11)) ⊎ (k ≡ 16))
 zero-or-between {v} {k} n = either (n .number) (λ e. inl e) (λ l. inr (between k l))
 
 -- ---- what is told of each kind of answer
@@ -123,6 +127,14 @@ pub coded-heard : (c : Coded) → codedReport c .number ≡ heard (ofCoded c)
 unfolding acceptedOf
 coded-heard (Coded.Number q) = refl
 coded-heard (Coded.Refused why) = refl
+
+pub series-heard : (s : Series) → seriesReport s .number ≡ heard (ofSeries s)
+unfolding acceptedOf reportOf
+series-heard s = go (s .settled)
+  where
+    go : (b : Bool) → cond b (acceptedOf (s .terms) (s .sum)) (unsettledOf (s .terms) (s .sum)) .number ≡ heard (cond b Done (Refused (Refusal.Plain notSettled)))
+    go true = refl
+    go false = refl
 
 pub gain-heard : (s : List ℕ) → gainReport s .number ≡ heard (ofSamples s)
 unfolding gainReport reportOf

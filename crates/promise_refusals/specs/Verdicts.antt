@@ -5,11 +5,13 @@ use mathlib.Core.Bool.{cond}
 use mathlib.Core.List.{List}
 use lib.Dec.{eqb}
 use lib.ListN.{length}
+use Rattle.verdict.specs.Numbers.{notSettled}
 use Rattle.verdict.specs.declared.Refusal.the-variants as Refusal
 use Rattle.verdict.specs.declared.Verdict.{Verdict}
 use Rattle.verdict.specs.declared.Verdict.the-variants.{Done, Refused}
 use Rattle.verdict.specs.declared.Length.{Length}
 use Rattle.verdict.specs.declared.Length.the-variants as Length
+use Rattle.math_bessel.specs.declared.Series.{Series}
 use Rattle.fir_length.specs.declared.order.Order.{Order}
 use Rattle.fir_length.specs.declared.order.Order.the-variants as Order
 use Rattle.fir_delay.specs.declared.Delayed.{Delayed}
@@ -33,6 +35,9 @@ ofDelay (Delayed.Refused why) = Refused why
 abbrev pub ofCoded : Coded → Verdict
 ofCoded (Coded.Number q) = Done
 ofCoded (Coded.Refused why) = Refused why
+
+abbrev pub ofSeries : Series → Verdict
+ofSeries s = cond (s .settled) Done (Refused (Refusal.Plain notSettled))
 
 -- a window's gain, of a source of bytes: whole f32s have one
 abbrev pub ofSamples : List ℕ → Verdict

@@ -11,6 +11,7 @@ use lib.ListN.{length, take, drop, getD}
 use lib.Ieee.{Float, nan, ofBits, ofInt, round, add, sub, mul, div, lt, le, ne, toUnsigned}
 use lib.Ieee.Fits.{and-l, and-r}
 use lib.Ieee.Scale.{finite}
+use Rattle.laws.specs.Every.{every}
 use Rattle.laws.specs.Binary64.{whole, fraction, fact, over}
 use Rattle.laws.specs.Filled.{tabulate, length-tabulate}
 use Rattle.laws.specs.Floor.{floorZ, ceilZ}
@@ -26,6 +27,7 @@ use Rattle.math_trig.specs.Trig.{sinOf, cosOf}
 use Rattle.math_exp.specs.Exp.{expOf}
 use Rattle.math_numbers.specs.Numbers.{positive}
 use Rattle.math_bessel.specs.Series.{seriesOf}
+use Rattle.win_settling.specs.Settling.{kaiserSettles}
 use Rattle.fir_length.specs.Kaiser.{betaOf, orderOf}
 use Rattle.fmt_q15.specs.Q15.{moved, takes}
 use Rattle.verdict.specs.declared.Verdict.{Verdict}
@@ -166,7 +168,7 @@ abbrev pub specTicket : ℕ → Outcome
 specTicket len = specBytes (specOf (fraction 1 4) (fraction 1 2) (whole 8)) (whole 1) 3 len
 
 pub spec-met : T (met (specTicket 24))
-unfolding met all tabulate takes moved specDesignOf specOrderOf orderOf betaOf Lowpass.lowpassOf Lowpass.tapOf windowAt normOf seriesOf sqrtOf sinOf sumTo fact over positive floorOf ceilOf absOf asFloat floorZ ceilZ toUnsigned ofBits ofInt round add sub mul div lt le ne
+unfolding met all tabulate takes moved specDesignOf specOrderOf orderOf betaOf Lowpass.lowpassOf Lowpass.tapOf windowAt normOf kaiserSettles every seriesOf sqrtOf sinOf sumTo fact over positive floorOf ceilOf absOf asFloat floorZ ceilZ toUnsigned ofBits ofInt round add sub mul div lt le ne
 spec-met = tt
 
 pub spec-stands : (before : List ℕ) → length before ≡ 24 → Stands (specTicket (length before)) before
@@ -192,7 +194,7 @@ abbrev pub channelizerTicket : ℕ → Outcome
 channelizerTicket len = channelizerBytes 4 4 (fraction 1 2) (whole 1) (whole 20) len
 
 pub channelizer-met : T (met (channelizerTicket 128))
-unfolding met all tabulate takes moved Channelizer.channelizerLowpassOf betaOf Lowpass.lowpassOf Lowpass.tapOf windowAt normOf seriesOf sqrtOf sinOf sumTo fact over positive floorOf absOf asFloat floorZ ofBits ofInt round add sub mul div lt le ne
+unfolding met all tabulate takes moved Channelizer.channelizerLowpassOf betaOf Lowpass.lowpassOf Lowpass.tapOf windowAt normOf kaiserSettles every seriesOf sqrtOf sinOf sumTo fact over positive floorOf absOf asFloat floorZ ofBits ofInt round add sub mul div lt le ne
 channelizer-met = tt
 
 pub channelizer-stands : (before : List ℕ) → length before ≡ 128 → Stands (channelizerTicket (length before)) before
@@ -205,7 +207,7 @@ abbrev pub halfbandTicket : ℕ → Outcome
 halfbandTicket len = halfbandBytes (whole 0) len
 
 pub halfband-met : T (met (halfbandTicket 56))
-unfolding met all tabulate takes moved Halfband.halfbandOf Halfband.divisorOf Halfband.tapOf Lowpass.lowpassOf Lowpass.tapOf windowAt normOf seriesOf sqrtOf sinOf sumTo fact over positive floorOf absOf asFloat floorZ ofBits ofInt round add sub mul div lt le ne
+unfolding met all tabulate takes moved Halfband.halfbandOf Halfband.divisorOf Halfband.tapOf Lowpass.lowpassOf Lowpass.tapOf windowAt normOf kaiserSettles every seriesOf sqrtOf sinOf sumTo fact over positive floorOf absOf asFloat floorZ ofBits ofInt round add sub mul div lt le ne
 halfband-met = tt
 
 module _ (before : List ℕ) (e : length before ≡ 56) where

@@ -3,19 +3,17 @@
 -- Assumes nothing.
 use mathlib.Core.Path.{_≡_, sym, ap, _∙_}
 use mathlib.Core.List.{List}
-use mathlib.Core.Bool.{Bool, true, false, not}
 use Prim.Native.Nat.{ℕ, _+_, _<_, _≤_}
 use native.Mathlib.Omega.{arith}
-use borrow.Author.Tests.{not-true, not-false}
 use lib.ListN.{length, set}
 use lib.Ieee.{Float}
 use Rattle.laws.specs.Filled.{filled, fill-none, fill-more, fill-all, length-filled}
-use Rattle.verdict.specs.Numbers.{badAttenuation}
-use Rattle.verdict.specs.declared.Refusal.the-variants.{Plain}
+use Rattle.verdict.specs.declared.Refusal.{Refusal}
+use Rattle.verdict.specs.declared.Verdict.{Verdict}
 use Rattle.verdict.specs.declared.Verdict.the-variants as Verdict
 use Rattle.win_sampled.specs.declared.shape.Shape.{Shape}
 use Rattle.win_sampled.specs.declared.shape.Symmetry.{Symmetry}
-use Rattle.win_sampled.specs.Shapes.{shapeTaken, normOf, divisorOf, sampleAt, FillsWindow}
+use Rattle.win_sampled.specs.Shapes.{normOf, divisorOf, sampleAt, judgementOf, FillsWindow}
 
 -- element i, for a divisor d
 abbrev pub elementAt : {A : Type 0} → (Float → A) → Shape → Float → ℕ → ℕ → A
@@ -38,15 +36,13 @@ module _ {A : Type 0} {code : Float → A} {shape : Shape} {before : List A} whe
       pub fill-next : {x : A} → i < length before → x ≡ elementAt code shape i0 d i → Filling code shape i0 d before (set now i x) (i + 1)
       fill-next l e = record { within = omega arith; stands = rw (e, f .stands) (fill-more i (elementAt code shape i0 d) before l) }
 
-      -- at the end, the test having told that the shape is taken; i0 and d are the definition's
-      pub fill-done : {symmetry : Symmetry} {taken : Bool} → taken ≡ shapeTaken shape → not taken ≡ false → i0 ≡ normOf shape → d ≡ divisorOf symmetry (length before) → length before ≤ i → FillsWindow code shape symmetry before Verdict.Done now
-      fill-done {taken = taken} r t n e l =
-          let takes : shapeTaken shape ≡ true = sym r ∙ not-false taken t in
+      -- at the end, where the window is judged so; i0 and d are the definition's
+      pub fill-done : {symmetry : Symmetry} {r : Verdict} → r ≡ judgementOf shape symmetry (length before) → r ≡ Verdict.Done → i0 ≡ normOf shape → d ≡ divisorOf symmetry (length before) → length before ≤ i → FillsWindow code shape symmetry before Verdict.Done now
+      fill-done {r = r} j t n e l =
+          let passes : judgementOf shape _ (length before) ≡ Verdict.Done = sym j ∙ t in
           let end : i ≡ length before = omega arith in
-          record { answer = rw takes; buffer = f .stands ∙ fill-all i (elementAt code shape i0 d) before l ∙ sym (rw (takes, ← n, ← e, ← end)) }
+          record { answer = sym passes; buffer = f .stands ∙ fill-all i (elementAt code shape i0 d) before l ∙ sym (rw (passes, ← n, ← e, ← end)) }
 
-  -- at a refusal, the test having told that the shape isn't taken
-  pub fill-refused : {symmetry : Symmetry} {taken : Bool} → taken ≡ shapeTaken shape → not taken ≡ true → FillsWindow code shape symmetry before (Verdict.Refused (Plain badAttenuation)) before
-  fill-refused {taken = taken} r t =
-      let refuses : shapeTaken shape ≡ false = sym r ∙ not-true taken t in
-      record { answer = rw refuses; buffer = rw refuses }
+  -- at a refusal
+  pub fill-refused : {symmetry : Symmetry} {why : Refusal} {r : Verdict} → r ≡ judgementOf shape symmetry (length before) → r ≡ Verdict.Refused why → FillsWindow code shape symmetry before (Verdict.Refused why) before
+  fill-refused j t = let refuses = sym j ∙ t in record { answer = sym refuses; buffer = rw refuses }

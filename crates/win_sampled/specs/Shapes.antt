@@ -12,9 +12,11 @@ use lib.Ieee.Scale.{finite}
 use Rattle.laws.specs.Binary64.{whole}
 use Rattle.laws.specs.Filled.{tabulate}
 use Rattle.math_bessel.specs.Series.{seriesOf}
-use Rattle.verdict.specs.Numbers.{badAttenuation}
+use Rattle.verdict.specs.Numbers.{badAttenuation, notSettled}
+use Rattle.verdict.specs.Converts.{leftOf}
 use Rattle.verdict.specs.declared.Refusal.the-variants.{Plain}
 use Rattle.win_shapes.specs.Windows.{angle, hannAt, harrisAt, kaiserAt}
+use Rattle.win_settling.specs.Settling.{kaiserSettles}
 use Rattle.verdict.specs.declared.Verdict.{Verdict}
 use Rattle.verdict.specs.declared.Verdict.the-variants as Verdict
 use Rattle.win_sampled.specs.declared.shape.Shape.{Shape}
@@ -55,7 +57,24 @@ sampleAt shape i0 d i = cond (eqb d 0) (whole 1) (shapeAt shape i0 (whole i) (wh
 abbrev pub windowAt : Shape → Symmetry → ℕ → ℕ → Float
 windowAt shape symmetry n i = sampleAt shape (normOf shape) (divisorOf symmetry n) i
 
--- what the answer and the buffer are afterwards, each sample through `code`; 4 comes for an empty buffer too
+-- ---- the judgement
+-- every series that n samples take has settled, for a divisor
+unfoldable pub seriesSettle : Shape → ℕ → ℕ → Bool
+seriesSettle Hann d n = true
+seriesSettle BlackmanHarris d n = true
+seriesSettle (Kaiser beta) d n = kaiserSettles beta d n
+
+-- n samples, in this order; 4 comes for none too
+unfoldable pub judgementOf : Shape → Symmetry → ℕ → Verdict
+unfolding shapeTaken seriesSettle divisorOf
+judgementOf shape symmetry n =
+    cond (shapeTaken shape)
+    (cond (seriesSettle shape (divisorOf symmetry n) n)
+    Verdict.Done
+    (Verdict.Refused (Plain notSettled)))
+    (Verdict.Refused (Plain badAttenuation))
+
+-- what the answer and the buffer are afterwards, each sample through `code`
 pub record FillsWindow {A : Type 0} (code : Float → A) (shape : Shape) (symmetry : Symmetry) (before : List A) (r : Verdict) (after : List A) : Type 0 where
-  pub answer : r ≡ cond (shapeTaken shape) Verdict.Done (Verdict.Refused (Plain badAttenuation))
-  pub buffer : after ≡ cond (shapeTaken shape) (tabulate (length before) (λ i. code (windowAt shape symmetry (length before) i))) before
+  pub answer : r ≡ judgementOf shape symmetry (length before)
+  pub buffer : after ≡ leftOf (judgementOf shape symmetry (length before)) (tabulate (length before) (λ i. code (windowAt shape symmetry (length before) i))) before

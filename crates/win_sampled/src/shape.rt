@@ -1,12 +1,16 @@
 // The shape of a window, one sample or two at a time.
 use math_bessel::Pair;
+use verdict::BAD_ATTENUATION;
+use verdict::NOT_SETTLED;
+use verdict::Refusal;
+use verdict::Verdict;
 use win_shapes::cosines;
 use win_shapes::curve;
 use win_shapes::curve::Curve;
 use win_shapes::kaiser;
 ghost use mathlib.Core.Path.{_≡_};
 ghost use Rattle.win_shapes.specs.Steps.{argumentOf};
-ghost use Rattle.win_sampled.specs.Shapes.{shapeTaken, normOf, divisorOf, sampleAt};
+ghost use Rattle.win_sampled.specs.Shapes.{shapeTaken, normOf, divisorOf, sampleAt, seriesSettle, judgementOf};
 ghost use Rattle.win_sampled.specs.SampleLaws.{curveOf, placeAt, valueOf, valueAt};
 
 // Kaiser's window carries its shape, beta.
@@ -23,7 +27,7 @@ pub enum Symmetry {
 }
 
 // Whether a window has this shape: beta must be finite and not negative.
-pub fn takes_shape(shape: Shape) -> bool
+fn takes_shape(shape: Shape) -> bool
     ensures { λ r. ⌜ r ≡ shapeTaken shape ⌝ }
 {
     match shape {
@@ -59,6 +63,31 @@ pub fn divisor(symmetry: Symmetry, n: u64) -> u64
         Symmetry::Periodic => n,
         Symmetry::Symmetric => { if n == 0 { 0 } else { n - 1 } }
     }
+}
+
+// Whether every series that n samples take has settled, for a divisor: Kaiser's at beta and at each sample.
+fn series_settle(shape: Shape, divisor: u64, n: u64) -> bool
+    ensures { λ r. ⌜ r ≡ seriesSettle shape divisor n ⌝ }
+{
+    match shape {
+        Shape::Hann => true,
+        Shape::BlackmanHarris => true,
+        Shape::Kaiser(beta) => win_settling::settles(beta, divisor, n),
+    }
+}
+
+// A window of n samples. Refused, in this order: 4 a beta that isn't finite and not negative, also for no samples; 16 a
+// series at beta or at a sample that hasn't settled, where the divisor isn't 0.
+pub fn judge(shape: Shape, symmetry: Symmetry, n: u64) -> Verdict
+    ensures { λ r. ⌜ r ≡ judgementOf shape symmetry n ⌝ }
+{
+    if !takes_shape(shape) {
+        return Verdict::Refused(Refusal::Plain(BAD_ATTENUATION));
+    }
+    if !series_settle(shape, divisor(symmetry, n), n) {
+        return Verdict::Refused(Refusal::Plain(NOT_SETTLED));
+    }
+    Verdict::Done
 }
 
 // A sample takes three steps, for a loop that works out the arguments of the next samples before the values of these.

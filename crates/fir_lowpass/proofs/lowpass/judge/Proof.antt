@@ -6,8 +6,8 @@ use borrow.Author.Tests.{not-true, not-false}
 use lib.Ieee.{ofBits, ofInt}
 use Rattle.laws.specs.Binary64.{_⊘_}
 use Rattle.math_numbers.specs.Numbers.{positive}
-use Rattle.fir_lowpass.specs.Lowpass.{inside, countTaken}
-use Rattle.fir_lowpass.specs.LowpassLaws.{passes, no-beta, no-count, no-cutoff, no-rate}
+use Rattle.fir_lowpass.specs.Lowpass.{inside, countTaken, betaTaken}
+use Rattle.fir_lowpass.specs.LowpassLaws.{count-least, passes, no-series, no-beta, no-count, no-cutoff, no-rate}
 use Rattle.fir_lowpass.proofs.lowpass.judge.Statement.{statement}
 use Rattle.fir_lowpass.proofs.lowpass.judge.Tie as tie
 
@@ -32,6 +32,9 @@ past2 c = sym (c .before .is-inside .ensures) ∙ not-false _ (c .if2 .left)
 
 past3 : (c : tie.Else3) → countTaken (c .before .before .before .before .before .before .args .n) ≡ true
 past3 c = sym (c .before .takes-count .ensures) ∙ not-false _ (c .if3 .left)
+
+past4 : (c : tie.Else4) → betaTaken (c .before .before .before .before .before .before .before .before .args .window) ≡ true
+past4 c = sym (c .before .takes-beta .ensures) ∙ not-false _ (c .if4 .left)
 
 returns : tie.Need-returns
 returns c =
@@ -60,13 +63,26 @@ returns-4 c =
     let a = e1 .before .before .args in
     sym (no-beta (a .cutoff) (a .rate) (a .window) (a .n) (past1 e1) (past2 e2) (past3 e3) (sym (c .before .takes-beta .ensures) ∙ not-true _ (c .if4 .taken)))
 
+series-settle-requires : tie.Need-series-settle-requires
+series-settle-requires c κs = let e3 = c .before .before in count-least (e3 .before .before .before .before .before .before .args .n) (past3 e3)
+
 returns-5 : tie.Need-returns-5
 returns-5 c =
-    let e3 = c .before .before in
+    let e4 = c .before .before in
+    let e3 = e4 .before .before in
     let e2 = e3 .before .before in
     let e1 = e2 .before .before in
     let a = e1 .before .before .args in
-    sym (passes (a .cutoff) (a .rate) (a .window) (a .n) (past1 e1) (past2 e2) (past3 e3) (sym (c .before .takes-beta .ensures) ∙ not-false _ (c .if4 .left)))
+    sym (no-series (a .cutoff) (a .rate) (a .window) (a .n) (past1 e1) (past2 e2) (past3 e3) (past4 e4) (sym (c .before .series-settle .ensures) ∙ not-true _ (c .if5 .taken)))
+
+returns-6 : tie.Need-returns-6
+returns-6 c =
+    let e4 = c .before .before in
+    let e3 = e4 .before .before in
+    let e2 = e3 .before .before in
+    let e1 = e2 .before .before in
+    let a = e1 .before .before .args in
+    sym (passes (a .cutoff) (a .rate) (a .window) (a .n) (past1 e1) (past2 e2) (past3 e3) (past4 e4) (sym (c .before .series-settle .ensures) ∙ not-false _ (c .if5 .left)))
 
 pub judge-spec : {M : Type 1} → statement M
 judge-spec =
@@ -80,4 +96,6 @@ judge-spec =
     returns-3
     takes-beta-requires
     returns-4
-    returns-5)
+    series-settle-requires
+    returns-5
+    returns-6)

@@ -16,11 +16,11 @@ Inv-loop shape out₀ n i0 d i₀ out i = Filling singleOf shape i0 d out₀ out
 abbrev μ-loop : tie.MeasureT-loop
 μ-loop shape out₀ n i0 d i₀ out i = length out₀ - i
 
-takes-shape-requires : tie.Need-takes-shape-requires Inv-loop μ-loop
-takes-shape-requires c κs = search needs
+judge-requires : tie.Need-judge-requires Inv-loop μ-loop
+judge-requires c κs = search needs
 
-returns : tie.Need-returns Inv-loop μ-loop
-returns c = fill-refused (c .before .takes-shape .ensures) (c .if1 .taken)
+enum-told : tie.Need-enum-told Inv-loop μ-loop
+enum-told c = search needs
 
 norm-requires : tie.Need-norm-requires Inv-loop μ-loop
 norm-requires c κs = search needs
@@ -52,14 +52,20 @@ loop-less c = omega arith
 loop-again : tie.Need-loop-again Inv-loop μ-loop
 loop-again c = fill-next (c .before .before .before .loop .inv) (omega arith) (c .narrow .ensures ∙ ap singleOf (c .before .sample-at .ensures))
 
+enum-known-judged : tie.Need-enum-known-judged Inv-loop μ-loop
+enum-known-judged c = search needs
+
 same-length : tie.Need-same-length Inv-loop μ-loop
 same-length c = same-size (c .before .loop .inv)
 
-returns-2 : tie.Need-returns-2 Inv-loop μ-loop
-returns-2 c =
+returns : tie.Need-returns Inv-loop μ-loop
+returns c =
     let at = c .before in
-    let test = at .before .before .before in
-    fill-done (at .loop .inv) (test .before .takes-shape .ensures) (test .if1 .left) (at .before .before .norm .ensures) (at .before .divisor .ensures) (omega arith)
+    let told = at .before .before .before in
+    fill-done (at .loop .inv) (told .before .before .judge .ensures) (told .enum-told .given .1) (at .before .before .norm .ensures) (at .before .divisor .ensures) (omega arith)
+
+returns-2 : tie.Need-returns-2 Inv-loop μ-loop
+returns-2 c = fill-refused (c .before .before .before .judge .ensures) (c .before .judged .given .1)
 
 pub fill-f32-spec : {M : Type 1} → statement M
 fill-f32-spec =
@@ -67,8 +73,8 @@ fill-f32-spec =
     (tie.spec
     Inv-loop
     μ-loop
-    takes-shape-requires
-    returns
+    judge-requires
+    enum-told
     norm-requires
     divisor-requires
     loop-holds
@@ -79,5 +85,7 @@ fill-f32-spec =
     add-i
     loop-less
     loop-again
+    enum-known-judged
     same-length
+    returns
     returns-2)

@@ -17,11 +17,11 @@ Inv-loop shape out₀ n i0 d i₀ out i = Filling q15Of shape i0 d out₀ out i
 abbrev μ-loop : tie.MeasureT-loop
 μ-loop shape out₀ n i0 d i₀ out i = length out₀ - i
 
-takes-shape-requires : tie.Need-takes-shape-requires Inv-loop μ-loop
-takes-shape-requires c κs = search needs
+judge-requires : tie.Need-judge-requires Inv-loop μ-loop
+judge-requires c κs = search needs
 
-returns : tie.Need-returns Inv-loop μ-loop
-returns c = fill-refused (c .before .takes-shape .ensures) (c .if1 .taken)
+enum-told : tie.Need-enum-told Inv-loop μ-loop
+enum-told c = search needs
 
 norm-requires : tie.Need-norm-requires Inv-loop μ-loop
 norm-requires c κs = search needs
@@ -38,8 +38,8 @@ sample-at-requires c κs = search needs
 q15-from-f64-requires : tie.Need-q15-from-f64-requires Inv-loop μ-loop
 q15-from-f64-requires c κs = search needs
 
-mul-t16 : tie.Need-mul-t16 Inv-loop μ-loop
-mul-t16 c = search needs
+mul-t17 : tie.Need-mul-t17 Inv-loop μ-loop
+mul-t17 c = search needs
 
 slice-set-from-out : tie.Need-slice-set-from-out Inv-loop μ-loop
 slice-set-from-out c = omega (arith, same-size (c .before .before .before .loop .inv))
@@ -53,14 +53,20 @@ loop-less c = omega arith
 loop-again : tie.Need-loop-again Inv-loop μ-loop
 loop-again c = fill-next (c .before .before .before .loop .inv) (omega arith) (toZ-ofZ w16 (c .q15-from-f64 .result) (record { sfits = c .q15-from-f64 .ok }) ∙ c .q15-from-f64 .ensures ∙ ap q15Of (c .before .sample-at .ensures))
 
+enum-known-judged : tie.Need-enum-known-judged Inv-loop μ-loop
+enum-known-judged c = search needs
+
 same-length : tie.Need-same-length Inv-loop μ-loop
 same-length c = same-size (c .before .loop .inv)
 
-returns-2 : tie.Need-returns-2 Inv-loop μ-loop
-returns-2 c =
+returns : tie.Need-returns Inv-loop μ-loop
+returns c =
     let at = c .before in
-    let test = at .before .before .before in
-    fill-done (at .loop .inv) (test .before .takes-shape .ensures) (test .if1 .left) (at .before .before .norm .ensures) (at .before .divisor .ensures) (omega arith)
+    let told = at .before .before .before in
+    fill-done (at .loop .inv) (told .before .before .judge .ensures) (told .enum-told .given .1) (at .before .before .norm .ensures) (at .before .divisor .ensures) (omega arith)
+
+returns-2 : tie.Need-returns-2 Inv-loop μ-loop
+returns-2 c = fill-refused (c .before .before .before .judge .ensures) (c .before .judged .given .1)
 
 pub fill-q15-spec : {M : Type 1} → statement M
 fill-q15-spec =
@@ -68,17 +74,19 @@ fill-q15-spec =
     (tie.spec
     Inv-loop
     μ-loop
-    takes-shape-requires
-    returns
+    judge-requires
+    enum-told
     norm-requires
     divisor-requires
     loop-holds
     sample-at-requires
     q15-from-f64-requires
-    mul-t16
+    mul-t17
     slice-set-from-out
     add-i
     loop-less
     loop-again
+    enum-known-judged
     same-length
+    returns
     returns-2)
