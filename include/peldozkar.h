@@ -27,9 +27,9 @@
 
 /* The version of this header and of the library that comes with it. */
 #define PEL_VERSION_MAJOR 0
-#define PEL_VERSION_MINOR 4
-#define PEL_VERSION_PATCH 1
-#define PEL_VERSION "0.4.1"
+#define PEL_VERSION_MINOR 5
+#define PEL_VERSION_PATCH 0
+#define PEL_VERSION "0.5.0"
 
 #ifdef __cplusplus
 extern "C" {
@@ -64,8 +64,9 @@ double pel_pow04(double v);
 
 /* ---- What a designer answers ------------------------------------------------------------------ */
 
-/* The refusals by number, and what is wrong. Later versions add numbers, 12 and up: a caller must treat every number
- * but PEL_ACCEPTED as a refusal, those that it doesn't know included. */
+/* The refusals by number, and what is wrong. The numbers are 1 to 11, and 16. Later versions add others, between these
+ * and above them: a caller must treat every number but PEL_ACCEPTED as a refusal, those that it doesn't know
+ * included. */
 enum {
     PEL_ACCEPTED = 0,
     /* The ticket's author caused it. */
@@ -80,8 +81,10 @@ enum {
     PEL_BAD_LENGTH = 8,    /* the buffer's length */
     PEL_TOO_MANY_TAPS = 9, /* max_taps is below the number of taps needed */
     /* Arithmetic caused it. */
-    PEL_BAD_SUM = 10,    /* the sum that the taps are divided by is 0 or not finite */
-    PEL_BAD_ELEMENT = 11 /* an element that Q15 or Q14 can't take */
+    PEL_BAD_SUM = 10,     /* the sum that the taps are divided by is 0 or not finite */
+    PEL_BAD_ELEMENT = 11, /* an element that Q15 or Q14 can't take */
+    PEL_NOT_SETTLED = 16  /* a Bessel series of Kaiser's window doesn't settle: take a beta of 713 or less, since above
+                             about 714 none does */
 };
 
 /* `number` is PEL_ACCEPTED where the ticket is accepted, and then `count` and `value` are the results. Otherwise it is
@@ -95,8 +98,9 @@ typedef struct {
     uint64_t expected; /* PEL_LENGTH: the length expected; PEL_CAP: the taps needed */
     uint64_t given;    /* PEL_LENGTH: the length given;    PEL_CAP: max_taps */
     uint64_t index;    /* PEL_ELEMENT: the element's index */
-    uint64_t count;    /* accepted: the number of taps, terms, half samples, samples or elements */
-    double value;      /* accepted: a divisor, a factor, a beta, a sum, or a Q15 or Q14 number */
+    /* Accepted, and of pel_bessel_i0 with 16 too: */
+    uint64_t count; /* the number of taps, terms, half samples, samples or elements */
+    double value;   /* a divisor, a factor, a beta, a sum, or a Q15 or Q14 number */
 } pel_report;
 
 enum { PEL_NOTHING = 0, PEL_RANGE = 1, PEL_LENGTH = 2, PEL_CAP = 3, PEL_ELEMENT = 4 };
@@ -104,8 +108,12 @@ enum { PEL_NOTHING = 0, PEL_RANGE = 1, PEL_LENGTH = 2, PEL_CAP = 3, PEL_ELEMENT 
 /* ---- Kaiser's formulas ------------------------------------------------------------------------ */
 
 /* The modified Bessel function of order 0 by its power series: value is the sum, count the number of
- * terms taken, 1 to 500. It stops after the first term below 1e-17 of the sum. Never refused. Example:
- * pel_bessel_i0(0) has the value 1 and takes one term. */
+ * terms taken, 1 to 500. It stops after the first term below 1e-17 of the sum, or after 500. The series is
+ * settled where such a term was met, the 500th included, and the sum is finite. Where it isn't, NaN and
+ * infinities among them, the number is 16, and value and count are told all the same: what was reached.
+ * Every x of a size up to 713 is settled, which is proved; the last is 713.98690854396818.
+ * Examples: pel_bessel_i0(0) has the value 1 and takes one term; pel_bessel_i0(714) has the number 16, an
+ * infinite value and takes 387 terms. */
 pel_report pel_bessel_i0(double x);
 
 /* The shape of Kaiser's window for an attenuation in dB: 0.1102 (a - 8.7) above 50,
@@ -140,7 +148,9 @@ enum { PEL_HANN = 0, PEL_HAMMING = 1, PEL_BLACKMAN = 2, PEL_KAISER = 3 };
  *   2   (0, rate/2, cutoff) where cutoff/rate isn't between 0 and 1/2
  *   6   no taps, or more than 2^24
  *   4   a beta that isn't finite and not negative
- *   10  a divisor that is 0 or not finite: too few taps for the window, or an overflowing series
+ *   16  (PEL_KAISER) a series that the window takes isn't settled, that at beta or one at a tap: beta is above
+ *       about 714. One tap takes no series
+ *   10  a divisor that is 0 or not finite: too few taps for the window
  * Example: a quarter of the rate, Hann, one tap is 1; two taps are refused with 10. */
 pel_report pel_lowpass(double cutoff, double rate, uint64_t window, double beta, uint8_t *out, size_t bytes);
 
@@ -158,7 +168,8 @@ pel_report pel_lowpass_new(double cutoff, double rate, uint64_t window, double b
  *   4, 3, 3  as pel_kaiserord
  *   9   max_taps is below the taps needed (expected)
  *   8   (pel_spec_design) the buffer isn't that many taps: expected and given in taps
- *   then as pel_lowpass; 2, 6 (16777217 taps) and 10 can occur.
+ *   then as pel_lowpass, but for pel_spec_num_taps, which takes no series; 2, 6 (16777217 taps), 16 (above about
+ *   6488 dB) and 10 can occur.
  * Example: 1000, 100, 60 dB at 8000 needs 293 taps; max_taps 292 gives 9, rate -8000 gives 1. */
 pel_report pel_spec_num_taps(double cutoff, double transition, double attenuation, double rate, uint64_t max_taps);
 pel_report pel_spec_lowpass(double cutoff, double transition, double attenuation, double rate, uint64_t max_taps);
@@ -173,7 +184,8 @@ typedef struct {
     double fraction; /* the cutoff over the rate */
     uint64_t window; /* PEL_HANN and so on */
     double beta;     /* of PEL_KAISER, else 0 */
-    double series;   /* what the window is divided by: the series at beta, 1 for the other windows */
+    double series;   /* what the window is divided by: the series at beta, 1 for the other windows; of one tap, whose
+                        window is 1, the sum that the series at beta reached, settled or not */
     double sum;      /* what the taps are divided by */
 } pel_design;
 
@@ -196,8 +208,9 @@ pel_tuned pel_design_lowpass(double cutoff, double rate, uint64_t window, double
  *   7   a window that has no code: a record that no design gave
  *   8   bytes isn't a multiple of 8, both figures in bytes
  *   8   the buffer isn't for as many taps as the record has: expected and given in taps
- *   then as pel_lowpass: 1, 2, 6, 4, 10 for a new cutoff, 4, 10 for a new beta. 6, and 2 with (0, 1/2, fraction) for a
- *   new beta, come only of a record that no design gave; such a record is answered by what it says.
+ *   then as pel_lowpass: 1, 2, 6, 4, 16, 10 for a new cutoff, 4, 16, 10 for a new beta. 16 goes by the beta and the
+ *   taps, whatever series the record has. 6, for a new cutoff 4 and 16, and for a new beta 2 with (0, 1/2, fraction),
+ *   come only of a record that no design gave; such a record is answered by what it says.
  * Example: from (1000, 8000, PEL_KAISER, 8) a new beta 6 gives what (1000, 8000, PEL_KAISER, 6) gives. */
 pel_tuned pel_design_new_cutoff(pel_design design, double cutoff, double rate, uint8_t *out, size_t bytes);
 pel_tuned pel_design_new_beta(pel_design design, double beta, uint8_t *out, size_t bytes);
@@ -212,6 +225,7 @@ pel_tuned pel_design_new_beta(pel_design design, double beta, uint8_t *out, size
  *   8   bytes isn't a multiple of 8, both figures in bytes
  *   6   the taps aren't 3 mod 4, or are more than 2^24
  *   4   a beta that isn't finite and not negative
+ *   16  a series that the window takes isn't settled, as pel_lowpass
  *   10  a divisor that is 0 or not finite
  * pel_halfband_len says how many taps a transition needs. Example: 5 taps are refused with 6. */
 pel_report pel_halfband(double beta, uint8_t *out, size_t bytes);
@@ -271,7 +285,7 @@ pel_report pel_channelizer_taps_per_branch(uint64_t channels, double passband, d
  *   6   channels isn't a power of two from 4 to 256
  *   6   branch isn't 4 to 32
  *   2, 2, 4  as pel_channelizer_taps
- *   then as pel_lowpass at rate 1: 2 (a cutoff that underflows) can occur
+ *   then as pel_lowpass at rate 1: 2 (a cutoff that underflows) can occur; a beta of 12.3 at most settles
  *   8   the buffer isn't that many taps: expected and given in taps
  * Example: 16 channels of 8 taps, 0.5, 1, 60 dB: 128 taps. */
 pel_report pel_channelizer_prototype(uint64_t channels, uint64_t branch, double passband, double stopband,
@@ -364,8 +378,8 @@ enum { PEL_PERIODIC = 0, PEL_SYMMETRIC = 1 };
  *   7   an unknown symmetry
  *   8   bytes isn't whole samples: expected the multiple below it, given, both in bytes
  *   4   (Kaiser) a beta that isn't finite and not negative, also where the buffer is empty
- * A beta above 713.98 overflows the series: the window is accepted, with NaN and 0 for samples, as the
- * formula has it.
+ *   16  (Kaiser) a series that the window takes isn't settled, that at beta or one at a sample: beta is above
+ *       about 714. An empty buffer and a symmetric window of one sample take no series
  * Example: four periodic Hann samples are 0, 0.5, 1, 0.5. */
 pel_report pel_hann_f32(uint64_t symmetry, uint8_t *out, size_t bytes);
 pel_report pel_hann_q15(uint64_t symmetry, uint8_t *out, size_t bytes);
