@@ -6,9 +6,9 @@ use crate::raw::{self, Report};
 
 /// What is wrong, by the refusals' numbers.
 ///
-/// Later versions add reasons, for numbers from 12 on, so a `match` needs an arm for the others. A number that a
-/// crate doesn't know is [`Unknown`](Self::Unknown) there, and has a reason of its own in a later one: to ask for
-/// such a number, compare [`number`](Self::number).
+/// Later versions add reasons, for numbers between these and above them, so a `match` needs an arm for the others. A
+/// number that a crate doesn't know is [`Unknown`](Self::Unknown) there, and has a reason of its own in a later one: to
+/// ask for such a number, compare [`number`](Self::number).
 ///
 /// ```
 /// use peldozkar::{Reason, Window, lowpass_new};
@@ -48,12 +48,15 @@ pub enum Reason {
     Divisor,
     /// 11: an element that Q15 or Q14 can't take.
     Element,
-    /// A number that this crate doesn't know, 12 or more: the library is newer than it.
+    /// 16: a Bessel series of Kaiser's window doesn't settle ([`Series::settled`](crate::Series::settled)). Take a
+    /// smaller beta: up to 713 every series settles, above about 714 that at beta doesn't.
+    Unsettled,
+    /// A number that this crate doesn't know, none of 1 to 11 and 16: the library is newer than it.
     Unknown(u32),
 }
 
 impl Reason {
-    /// The refusal's number: 1 to 11, or the one that is [`Unknown`](Self::Unknown).
+    /// The refusal's number: 1 to 11, 16, or the one that is [`Unknown`](Self::Unknown).
     ///
     /// ```
     /// assert_eq!(peldozkar::Reason::Cap.number(), 9);
@@ -71,6 +74,7 @@ impl Reason {
             Self::Cap => raw::TOO_MANY_TAPS,
             Self::Divisor => raw::BAD_SUM,
             Self::Element => raw::BAD_ELEMENT,
+            Self::Unsettled => raw::NOT_SETTLED,
             Self::Unknown(number) => number,
         }
     }
@@ -88,6 +92,7 @@ impl Reason {
             raw::TOO_MANY_TAPS => Self::Cap,
             raw::BAD_SUM => Self::Divisor,
             raw::BAD_ELEMENT => Self::Element,
+            raw::NOT_SETTLED => Self::Unsettled,
             other => Self::Unknown(other),
         }
     }
@@ -109,6 +114,9 @@ impl Reason {
             Self::Cap => "more taps are needed than are allowed",
             Self::Divisor => "the sum that the taps are divided by is zero or not finite",
             Self::Element => "an element doesn't fit the format",
+            Self::Unsettled => {
+                "a Bessel series of Kaiser's window doesn't settle: take a beta of 713, or 6478 dB, at most"
+            }
             Self::Unknown(_) => "the library is newer than this crate",
         }
     }

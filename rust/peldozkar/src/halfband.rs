@@ -12,6 +12,7 @@ use crate::{Design, Error};
 /// Refused, in this order, with `out` as it came:
 /// - 6 the taps aren't 3 mod 4, or are more than 2^24
 /// - 4 a beta that isn't finite and not negative
+/// - 16 a series that the window takes isn't settled, as [`lowpass`](crate::lowpass): beta is above about 714
 /// - 10 a divisor that is 0 or not finite
 ///
 /// # Examples
@@ -37,6 +38,7 @@ pub fn halfband(beta: f64, out: &mut [f64]) -> Result<Design, Error> {
 /// ```
 /// assert_eq!(peldozkar::halfband_new(5.0, 7).map(|design| design.taps), Ok(7));
 /// assert_eq!(peldozkar::halfband_new(5.0, 5).unwrap_err().number(), 6);
+/// assert_eq!(peldozkar::halfband_new(1000.0, 7).unwrap_err().number(), 16);
 /// ```
 pub fn halfband_new(beta: f64, taps: u64) -> Result<Design, Error> {
     Design::of(raw::pel_halfband_new(beta, taps))

@@ -3,28 +3,37 @@
 use crate::Error;
 use crate::raw;
 
-/// A power series' sum, and how many of its terms were taken.
+/// A power series' sum, how many of its terms were taken, and whether it is settled.
 #[derive(Clone, Copy, Debug, PartialEq)]
 pub struct Series {
-    /// The sum.
+    /// The sum; where it isn't settled, what was reached.
     pub sum: f64,
     /// The terms taken, 1 to 500.
     pub terms: u64,
+    /// Whether the sum is finite and a term below 1e-17 of it was met, the 500th included. Where this is false,
+    /// Kaiser's window with such a beta is refused with 16. Every size up to 713 is settled, which is proved; the last
+    /// is 713.98690854396818.
+    pub settled: bool,
 }
 
 /// The modified Bessel function of order 0 by its power series, which stops after the first term below 1e-17
-/// of the sum.
+/// of the sum, or after 500.
 ///
 /// ```
 /// use peldozkar::{Series, bessel_i0};
 ///
-/// assert_eq!(bessel_i0(0.0), Series { sum: 1.0, terms: 1 });
+/// assert_eq!(bessel_i0(0.0), Series { sum: 1.0, terms: 1, settled: true });
+/// assert!(bessel_i0(713.0).settled);
+///
+/// // The sum overflows, and what was reached is told all the same.
+/// assert_eq!(bessel_i0(750.0), Series { sum: f64::INFINITY, terms: 269, settled: false });
 /// ```
 pub fn bessel_i0(x: f64) -> Series {
     let report = raw::pel_bessel_i0(x);
     Series {
         sum: report.value,
         terms: report.count,
+        settled: report.number == raw::ACCEPTED,
     }
 }
 

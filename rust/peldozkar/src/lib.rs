@@ -25,8 +25,8 @@
 //! take keeps the numbers before it. Every number can be offered, NaN, infinities and impossible counts
 //! included: nothing here panics.
 //!
-//! A refusal has a number. This crate knows 1 to 11; later versions add more, so [`Reason`], [`Carried`], [`Window`]
-//! and [`Response`] are `#[non_exhaustive]`.
+//! A refusal has a number. This crate knows 1 to 11, and 16; later versions add others, between these and above, so
+//! [`Reason`], [`Carried`], [`Window`] and [`Response`] are `#[non_exhaustive]`.
 //!
 //! # What a caller owes
 //!

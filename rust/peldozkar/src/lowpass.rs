@@ -58,13 +58,15 @@ impl Design {
 /// - 2 (0, rate/2, cutoff) where cutoff/rate isn't between 0 and 1/2
 /// - 6 no taps, or more than 2^24
 /// - 4 a beta that isn't finite and not negative
-/// - 10 a divisor that is 0 or not finite: too few taps for the window, or an overflowing series
+/// - 16 a series that Kaiser's window takes isn't settled, that at beta or one at a tap: beta is above about 714. One
+///   tap takes no series
+/// - 10 a divisor that is 0 or not finite: too few taps for the window
 ///
 /// # Examples
 ///
 /// ```
 /// # fn main() -> Result<(), peldozkar::Error> {
-/// use peldozkar::{Window, lowpass};
+/// use peldozkar::{Reason, Window, lowpass};
 ///
 /// let mut taps = [0.0; 63];
 /// let design = lowpass(1000.0, 8000.0, Window::Hamming, &mut taps)?;
@@ -73,6 +75,11 @@ impl Design {
 ///
 /// let error = lowpass(4000.0, 8000.0, Window::Hamming, &mut taps).unwrap_err();
 /// assert_eq!(error.number(), 2);
+///
+/// // So large a beta is too much for the window's series; a smaller one is taken.
+/// let error = lowpass(1000.0, 8000.0, Window::Kaiser(1000.0), &mut taps).unwrap_err();
+/// assert_eq!(error.reason, Reason::Unsettled);
+/// lowpass(1000.0, 8000.0, Window::Kaiser(713.0), &mut taps)?;
 /// # Ok(())
 /// # }
 /// ```
@@ -89,6 +96,8 @@ pub fn lowpass(cutoff: f64, rate: f64, window: Window, out: &mut [f64]) -> Resul
 ///
 /// assert_eq!(lowpass_new(0.25, 1.0, Window::Hann, 1)?.divisor, 0.5);
 /// assert_eq!(lowpass_new(0.25, 1.0, Window::Hann, 2).unwrap_err().number(), 10);
+/// assert_eq!(lowpass_new(0.25, 1.0, Window::Kaiser(1e4), 1)?.divisor, 0.5);
+/// assert_eq!(lowpass_new(0.25, 1.0, Window::Kaiser(1e4), 2).unwrap_err().number(), 16);
 /// # Ok(())
 /// # }
 /// ```
@@ -105,6 +114,9 @@ pub fn lowpass_new(cutoff: f64, rate: f64, window: Window, taps: u64) -> Result<
 /// - 2 (0, rate/2 - transition/2, cutoff), each operation rounded, where the cutoff isn't above 0 and at most that
 /// - 4, 3, 3 as [`kaiserord`](crate::kaiserord)
 /// - 9 `max_taps` is below the taps needed
+///
+/// and then, but for [`num_taps`](Self::num_taps), which takes no series, as [`lowpass`], of which 2, 6 (16777217
+/// taps), 16 (above about 6488 dB) and 10 can occur.
 ///
 /// ```
 /// # fn main() -> Result<(), peldozkar::Error> {
@@ -128,7 +140,7 @@ pub struct Spec {
 }
 
 impl Spec {
-    /// The number of taps needed at a rate, `max_taps` at most.
+    /// The number of taps needed at a rate, `max_taps` at most; never refused with 16.
     ///
     /// ```
     /// use peldozkar::{Reason, Spec};
@@ -172,8 +184,8 @@ impl Spec {
     ///
     /// # Errors
     ///
-    /// Refused besides, with `out` as it came: 8 where `out` isn't as many taps as are needed; then as
-    /// [`lowpass`], of which 2, 6 (16777217 taps) and 10 can occur.
+    /// Refused besides, with `out` as it came: 8 where `out` isn't as many taps as are needed, after 9 and before what
+    /// [`lowpass`] refuses.
     ///
     /// # Examples
     ///

@@ -32,7 +32,7 @@ pub use crate::sys::{
 };
 
 /// `number`: the ticket is accepted. Every other number is a refusal, those included that are not named here: later
-/// versions add numbers from 12 on.
+/// versions add numbers between these and above them.
 pub const ACCEPTED: u32 = 0;
 /// `number`: the rate.
 pub const BAD_RATE: u32 = 1;
@@ -56,6 +56,8 @@ pub const TOO_MANY_TAPS: u32 = 9;
 pub const BAD_SUM: u32 = 10;
 /// `number`: an element that Q15 or Q14 can't take.
 pub const BAD_ELEMENT: u32 = 11;
+/// `number`: a Bessel series of Kaiser's window doesn't settle; a smaller beta is needed.
+pub const NOT_SETTLED: u32 = 16;
 
 /// `carries`: nothing.
 pub const NOTHING: u32 = 0;
@@ -112,9 +114,11 @@ pub struct Report {
     pub given: u64,
     /// The index of the element.
     pub index: u64,
-    /// Accepted: the number of taps, terms, half samples, samples or elements.
+    /// Accepted, and of [`pel_bessel_i0`] with [`NOT_SETTLED`] too: the number of taps, terms, half samples, samples or
+    /// elements.
     pub count: u64,
-    /// Accepted: a divisor, a factor, a beta, a sum, or a Q15 or Q14 number.
+    /// Accepted, and of [`pel_bessel_i0`] with [`NOT_SETTLED`] too: a divisor, a factor, a beta, a sum, or a Q15 or Q14
+    /// number.
     pub value: f64,
 }
 
@@ -130,7 +134,8 @@ pub struct Design {
     pub window: u64,
     /// Kaiser's beta, 0 for the other windows.
     pub beta: f64,
-    /// What the window is divided by: the series at beta, 1 for the other windows.
+    /// What the window is divided by: the series at beta, 1 for the other windows; of one tap, whose window is 1, the
+    /// sum that the series at beta reached, settled or not.
     pub series: f64,
     /// What the taps are divided by.
     pub sum: f64,

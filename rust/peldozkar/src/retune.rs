@@ -62,6 +62,8 @@ impl Lowpass {
     /// - 1 a rate that isn't finite and positive
     /// - 2 (0, rate/2, cutoff) where cutoff/rate isn't between 0 and 1/2
     /// - 10 a divisor that is 0 or not finite
+    ///
+    /// Its beta was judged when it was taken, and isn't refused with 4 or 16 here.
     pub fn new_cutoff(&mut self, cutoff: f64, rate: f64, out: &mut [f64]) -> Result<Design, Error> {
         let tuned = raw::pel_design_new_cutoff(self.record, cutoff, rate, bytes_mut(out));
         self.turn(tuned)
@@ -75,7 +77,23 @@ impl Lowpass {
     /// - 7 a window other than Kaiser's, before anything else
     /// - 8 `out` isn't as many taps as the design has
     /// - 4 a beta that isn't finite and not negative
+    /// - 16 a series that the window takes isn't settled: beta is above about 714. One tap takes no series
     /// - 10 a divisor that is 0 or not finite
+    ///
+    /// # Examples
+    ///
+    /// ```
+    /// # fn main() -> Result<(), peldozkar::Error> {
+    /// use peldozkar::{Lowpass, Reason, Window};
+    ///
+    /// let mut taps = [0.0; 63];
+    /// let mut knob = Lowpass::new(1000.0, 8000.0, Window::Kaiser(8.0), &mut taps)?;
+    /// let (kept, before) = (knob, taps);
+    /// assert_eq!(knob.new_beta(1000.0, &mut taps).unwrap_err().reason, Reason::Unsettled);
+    /// assert_eq!((knob, taps), (kept, before));
+    /// # Ok(())
+    /// # }
+    /// ```
     pub fn new_beta(&mut self, beta: f64, out: &mut [f64]) -> Result<Design, Error> {
         let tuned = raw::pel_design_new_beta(self.record, beta, bytes_mut(out));
         self.turn(tuned)
@@ -89,7 +107,7 @@ impl Lowpass {
         }
     }
 
-    /// The record as C has it, with the series at beta that it keeps.
+    /// The record as C has it, with the series at beta that it keeps; of one tap what that reached, settled or not.
     pub const fn record(&self) -> raw::Design {
         self.record
     }

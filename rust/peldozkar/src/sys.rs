@@ -34,7 +34,7 @@ mod border {
         pub safe fn pel_exp(x: f64) -> f64;
         /// `v` to the power 0.4.
         pub safe fn pel_pow04(v: f64) -> f64;
-        /// The modified Bessel function of order 0: the sum and the number of terms.
+        /// The modified Bessel function of order 0: the sum, the number of terms, and whether it is settled.
         pub safe fn pel_bessel_i0(x: f64) -> Report;
         /// The shape of Kaiser's window.
         pub safe fn pel_kaiser_beta(attenuation: f64) -> f64;

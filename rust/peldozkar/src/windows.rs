@@ -106,9 +106,10 @@ pub fn blackman_harris<S: Sample>(symmetry: Symmetry, out: &mut [S]) {
 ///
 /// # Errors
 ///
-/// Refused: 4 a beta that isn't finite and not negative, also where `out` is empty; `out` is as it came. A
-/// beta above 713.98 overflows the series: the window is accepted, with NaN and 0 for samples, as the formula
-/// has it.
+/// Refused, in this order, with `out` as it came:
+/// - 4 a beta that isn't finite and not negative, also where `out` is empty
+/// - 16 a series that the window takes isn't settled, that at beta or one at a sample: beta is above about 714. An
+///   empty `out` and a symmetric window of one sample take no series
 ///
 /// # Examples
 ///
@@ -120,6 +121,8 @@ pub fn blackman_harris<S: Sample>(symmetry: Symmetry, out: &mut [S]) {
 /// kaiser(0.0, Symmetry::Symmetric, &mut samples)?;
 /// assert_eq!(samples, [1.0; 3]);
 /// assert_eq!(kaiser(-1.0, Symmetry::Symmetric, &mut samples).unwrap_err().number(), 4);
+/// assert_eq!(kaiser(1000.0, Symmetry::Symmetric, &mut samples).unwrap_err().number(), 16);
+/// assert_eq!(samples, [1.0; 3]);
 /// # Ok(())
 /// # }
 /// ```

@@ -14,6 +14,10 @@ use peldozkar::{
     window_gain,
 };
 
+/// The last beta whose series settles, and the next number.
+const LAST_SETTLED: f64 = 713.986_908_543_968_2;
+const NEXT: f64 = 713.986_908_543_968_3;
+
 /// The numbers that a raw call writes into that many bytes, which must be accepted.
 #[track_caller]
 fn written<const N: usize>(call: impl FnOnce(&mut [u8]) -> Report) -> (Report, [f64; N]) {
@@ -109,9 +113,40 @@ fn elementary_functions() {
 
 #[test]
 fn kaisers_formulas() {
-    let report = raw::pel_bessel_i0(3.5);
-    let Series { sum, terms } = bessel_i0(3.5);
-    assert_eq!((sum, terms), (report.value, report.count));
+    // Where it isn't settled, what is reached is told all the same.
+    assert_eq!(NEXT.to_bits(), LAST_SETTLED.to_bits() + 1);
+    for (x, settled, count) in [
+        (3.5, true, None),
+        (713.0, true, None),
+        (LAST_SETTLED, true, Some(476)),
+        (-LAST_SETTLED, true, Some(476)),
+        (NEXT, false, Some(461)),
+        (-NEXT, false, Some(461)),
+        (750.0, false, Some(269)),
+        (1e3, false, Some(500)),
+        (f64::MAX, false, Some(500)),
+        (f64::NEG_INFINITY, false, Some(500)),
+    ] {
+        let report = raw::pel_bessel_i0(x);
+        let series = bessel_i0(x);
+        let told = Report {
+            number: if settled { 0 } else { raw::NOT_SETTLED },
+            count: report.count,
+            value: report.value,
+            ..Report::default()
+        };
+        assert_eq!(report, told, "{x}");
+        let want = Series {
+            sum: report.value,
+            terms: report.count,
+            settled,
+        };
+        assert_eq!(series, want, "{x}");
+        assert_eq!(series.sum.is_finite(), settled, "{x}");
+        assert!(count.is_none_or(|count| count == series.terms), "{x}");
+    }
+    let none = bessel_i0(f64::NAN);
+    assert!(none.sum.is_nan() && none.terms == 500 && !none.settled);
     let (taps, beta) = kaiserord(70.0, 300.0, 9000.0).unwrap();
     let report = raw::pel_kaiserord(70.0, 300.0, 9000.0);
     assert_eq!((taps, beta), (report.count, report.value));
@@ -139,10 +174,11 @@ fn turned_knobs() {
     assert_eq!(knob.record().series, series);
     for step in 0..40_u32 {
         let value = f64::from(step);
-        // Every third turn is one past half the rate, or a beta below 0, and is refused.
+        // Every third turn is one past half the rate, a beta below 0 or one that doesn't settle, and is refused.
         let answer = match step % 6 {
             0 | 2 => knob.new_cutoff(300.0 + 50.0 * value, 6000.0 + value, &mut taps),
             1 => knob.new_cutoff(4000.0, 8000.0, &mut taps),
+            4 if step % 4 == 0 => knob.new_beta(LAST_SETTLED + value, &mut taps),
             4 => knob.new_beta(-value, &mut taps),
             _ => knob.new_beta(0.25 * value, &mut taps),
         };
@@ -151,6 +187,7 @@ fn turned_knobs() {
             0 | 2 => last = (300.0 + 50.0 * value, 6000.0 + value, last.2),
             3 | 5 => last.2 = 0.25 * value,
             1 => assert_eq!(refused, Some(2)),
+            _ if step % 4 == 0 => assert_eq!(refused, Some(16)),
             _ => assert_eq!(refused, Some(4)),
         }
         assert_eq!(refused.is_some(), step % 3 == 1, "step {step}");
@@ -160,10 +197,12 @@ fn turned_knobs() {
             lowpass_new(last.0, last.1, Window::Kaiser(last.2), 31).unwrap()
         );
     }
-    // One tap keeps a series that overflows as it was reached.
+    // One tap takes no series, and keeps what that at beta reached.
     let mut one = [0.0];
     let mut knob = Lowpass::new(0.25, 1.0, Window::Kaiser(1e4), &mut one).unwrap();
     assert_eq!((knob.record().series, one), (bessel_i0(1e4).sum, [1.0]));
+    knob.new_cutoff(0.125, 1.0, &mut one).unwrap();
+    assert_eq!((knob.record().beta, one), (1e4, [1.0]));
     knob.new_beta(-0.0, &mut one).unwrap();
     assert_eq!(
         (knob.record().beta.to_bits(), knob.record().series),
@@ -178,6 +217,7 @@ fn lowpass_filters() {
         (Window::Hamming, raw::HAMMING, 0.0),
         (Window::Blackman, raw::BLACKMAN, 0.0),
         (Window::Kaiser(6.5), raw::KAISER, 6.5),
+        (Window::Kaiser(LAST_SETTLED), raw::KAISER, LAST_SETTLED),
     ];
     for (window, code, beta) in windows {
         let (report, want) = written::<31>(|out| raw::pel_lowpass(900.0, 8000.0, code, beta, out));
@@ -346,12 +386,14 @@ fn windows() {
         assert_eq!(packed(floats, f32::to_le_bytes), wide);
         assert_eq!(packed(numbers, i16::to_le_bytes), narrow);
 
-        kaiser(8.5, symmetry, &mut floats).unwrap();
-        kaiser(8.5, symmetry, &mut numbers).unwrap();
-        assert_eq!(raw::pel_kaiser_f32(8.5, code, &mut wide).count, 9);
-        assert_eq!(raw::pel_kaiser_q15(8.5, code, &mut narrow).count, 9);
-        assert_eq!(packed(floats, f32::to_le_bytes), wide);
-        assert_eq!(packed(numbers, i16::to_le_bytes), narrow);
+        for beta in [LAST_SETTLED, 8.5] {
+            kaiser(beta, symmetry, &mut floats).unwrap();
+            kaiser(beta, symmetry, &mut numbers).unwrap();
+            assert_eq!(raw::pel_kaiser_f32(beta, code, &mut wide).count, 9);
+            assert_eq!(raw::pel_kaiser_q15(beta, code, &mut narrow).count, 9);
+            assert_eq!(packed(floats, f32::to_le_bytes), wide);
+            assert_eq!(packed(numbers, i16::to_le_bytes), narrow);
+        }
 
         let (report, gain) = (raw::pel_window_gain(&wide), window_gain(&floats));
         assert_eq!(

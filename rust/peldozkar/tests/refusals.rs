@@ -110,8 +110,9 @@ fn numbers_are_those_of_the_header() {
         Reason::Cap,
         Reason::Divisor,
         Reason::Element,
+        Reason::Unsettled,
     ];
-    assert!(all.map(Reason::number).into_iter().eq(1..=11));
+    assert!(all.map(Reason::number).into_iter().eq((1..=11).chain([16])));
     let named = [
         raw::BAD_RATE,
         raw::BAD_FREQUENCY,
@@ -124,10 +125,12 @@ fn numbers_are_those_of_the_header() {
         raw::TOO_MANY_TAPS,
         raw::BAD_SUM,
         raw::BAD_ELEMENT,
+        raw::NOT_SETTLED,
     ];
     assert_eq!(all.map(Reason::number), named);
     assert_eq!(raw::ACCEPTED, 0);
     assert_eq!(Reason::Unknown(12).number(), 12);
+    assert_eq!(Reason::Unknown(17).number(), 17);
 }
 
 #[test]
@@ -411,11 +414,137 @@ fn ten_a_divisor() {
         lent::<2, _>(|out| lowpass(0.25, 1.0, Window::Hann, out)),
         Reason::Divisor,
     );
+    // A Kaiser window's two taps are so small at so small a cutoff that they are 0.
     plain(
-        lowpass_new(0.25, 1.0, Window::Kaiser(1e4), 10),
+        lent::<2, _>(|out| lowpass(1e-20, 1.0, Window::Kaiser(713.0), out)),
         Reason::Divisor,
     );
-    plain(lent::<7, _>(|out| halfband(1e4, out)), Reason::Divisor);
+}
+
+/// The last beta whose series settles, and those that don't, the next number first.
+const LAST_SETTLED: f64 = 713.986_908_543_968_2;
+const UNSETTLED: [f64; 6] = [713.986_908_543_968_3, 714.0, 750.0, 754.0, 1e3, f64::MAX];
+
+#[test]
+fn sixteen_a_series_that_does_not_settle() {
+    let deep = |attenuation| Spec {
+        cutoff: 0.25,
+        transition: 0.45,
+        attenuation,
+    };
+    for beta in UNSETTLED {
+        plain(
+            lent::<8, _>(|out| lowpass(1000.0, 8000.0, Window::Kaiser(beta), out)),
+            Reason::Unsettled,
+        );
+        plain(
+            lowpass_new(1000.0, 8000.0, Window::Kaiser(beta), 2),
+            Reason::Unsettled,
+        );
+        plain(
+            lent::<8, _>(|out| Lowpass::new(1000.0, 8000.0, Window::Kaiser(beta), out)),
+            Reason::Unsettled,
+        );
+        plain(lent::<7, _>(|out| halfband(beta, out)), Reason::Unsettled);
+        plain(halfband_new(beta, 3), Reason::Unsettled);
+        for symmetry in [Symmetry::Periodic, Symmetry::Symmetric] {
+            let (mut numbers, mut floats) = ([7_i16; 4], [7.0_f32; 4]);
+            plain(kaiser(beta, symmetry, &mut numbers), Reason::Unsettled);
+            plain(kaiser(beta, symmetry, &mut floats), Reason::Unsettled);
+            assert_eq!((numbers, floats), ([7; 4], [7.0; 4]));
+        }
+        // No series is taken for one tap, for no samples and for a symmetric window of one.
+        let mut one = [0.0];
+        let design = lowpass(1000.0, 8000.0, Window::Kaiser(beta), &mut one).unwrap();
+        assert_eq!((design.divisor, one), (0.25, [1.0]));
+        let (mut numbers, mut floats) = ([7_i16], [7.0_f32]);
+        assert_eq!(kaiser(beta, Symmetry::Symmetric, &mut numbers), Ok(()));
+        assert_eq!(kaiser(beta, Symmetry::Symmetric, &mut floats), Ok(()));
+        assert_eq!((numbers, floats), ([32767], [1.0]));
+        assert_eq!(kaiser::<f32>(beta, Symmetry::Periodic, &mut []), Ok(()));
+        assert_eq!(kaiser::<i16>(beta, Symmetry::Symmetric, &mut []), Ok(()));
+        plain(
+            kaiser(beta, Symmetry::Periodic, &mut numbers),
+            Reason::Unsettled,
+        );
+        plain(
+            kaiser(beta, Symmetry::Periodic, &mut floats),
+            Reason::Unsettled,
+        );
+        assert_eq!((numbers, floats), ([32767], [1.0]));
+    }
+    // What settles is taken.
+    for beta in [713.0, LAST_SETTLED] {
+        let mut taps = [0.0; 8];
+        assert!(lowpass(1000.0, 8000.0, Window::Kaiser(beta), &mut taps).is_ok());
+        assert!(halfband(beta, &mut taps[..7]).is_ok());
+        assert!(kaiser(beta, Symmetry::Periodic, &mut [0.0_f32; 4]).is_ok());
+        assert!(kaiser(beta, Symmetry::Symmetric, &mut [0_i16; 4]).is_ok());
+    }
+    // Kaiser's beta for so many dB; how many taps are needed takes no series.
+    let mut taps = vec![0.0; 1005];
+    assert!(deep(6487.71).design(1.0, 1005, &mut taps).is_ok());
+    let before = taps.clone();
+    let over = deep(6487.72);
+    assert_eq!(over.num_taps(1.0, 1005), Ok(1005));
+    plain(over.lowpass(1.0, 1005), Reason::Unsettled);
+    plain(over.design(1.0, 1005, &mut taps), Reason::Unsettled);
+    assert_eq!(taps, before);
+}
+
+/// Tickets with two faults: 16 comes after 1, 2, 6, 4, 7, 8 and 9, and before 10.
+#[test]
+fn sixteen_among_its_neighbours() {
+    let low = |cutoff, rate, beta, taps| {
+        lowpass_new(cutoff, rate, Window::Kaiser(beta), taps)
+            .unwrap_err()
+            .number()
+    };
+    assert_eq!(low(1000.0, 0.0, 1e4, 8), 1);
+    assert_eq!(low(4000.0, 8000.0, 1e4, 8), 2);
+    assert_eq!(low(1000.0, 8000.0, 1e4, 0), 6);
+    assert_eq!(low(1000.0, 8000.0, 1e4, (1 << 24) + 1), 6);
+    assert_eq!(low(1000.0, 8000.0, -1e4, 8), 4);
+    assert_eq!(low(1000.0, 8000.0, 1e4, 8), 16);
+    assert_eq!(low(1e-20, 1.0, 714.0, 2), 16);
+    assert_eq!(low(1e-20, 1.0, 713.0, 2), 10);
+    plain(halfband_new(1e4, 5), Reason::Count);
+    plain(halfband_new(-1e4, 7), Reason::Attenuation);
+
+    let deep = Spec {
+        cutoff: 0.25,
+        transition: 0.45,
+        attenuation: 7000.0,
+    };
+    let needed = deep.num_taps(1.0, 2000).unwrap();
+    let error = deep.lowpass(1.0, needed - 1).unwrap_err();
+    assert_eq!(error.reason, Reason::Cap);
+    refused(
+        lent::<8, _>(|out| deep.design(1.0, needed, out)),
+        Reason::Length,
+        length(needed, 8),
+    );
+    plain(deep.lowpass(-1.0, needed), Reason::Rate);
+
+    let mut taps = [0.0; 5];
+    let mut knob = Lowpass::new(1000.0, 8000.0, Window::Hann, &mut taps).unwrap();
+    plain(lent::<5, _>(|out| knob.new_beta(1e4, out)), Reason::Code);
+    let mut knob = Lowpass::new(1000.0, 8000.0, Window::Kaiser(2.0), &mut taps).unwrap();
+    refused(
+        lent::<4, _>(|out| knob.new_beta(1e4, out)),
+        Reason::Length,
+        length(5, 4),
+    );
+    let mut two = [0.0; 2];
+    let mut knob = Lowpass::new(1e-20, 1.0, Window::Kaiser(2.0), &mut two).unwrap();
+    plain(
+        lent::<2, _>(|out| knob.new_beta(713.0, out)),
+        Reason::Divisor,
+    );
+    plain(
+        lent::<2, _>(|out| knob.new_beta(714.0, out)),
+        Reason::Unsettled,
+    );
 }
 
 #[test]
@@ -507,6 +636,10 @@ fn in_words() {
         "refused with 11: an element doesn't fit the format \
          (index 0, smallest -2.0, largest 1.99993896484375, offered -3.0)"
     );
+    assert_eq!(
+        told(halfband_new(1e3, 7)),
+        "refused with 16: a Bessel series of Kaiser's window doesn't settle: take a beta of 713, or 6478 dB, at most"
+    );
     // It is an error like any other.
     let boxed: Box<dyn std::error::Error + Send + Sync> = Box::new(delay(0).unwrap_err());
     assert!(boxed.source().is_none());
@@ -545,7 +678,12 @@ fn turns_of_a_knob() {
         lent::<5, _>(|out| knob.new_beta(NAN, out)),
         Reason::Attenuation,
     );
-    plain(lent::<5, _>(|out| knob.new_beta(1e4, out)), Reason::Divisor);
+    for beta in UNSETTLED {
+        plain(
+            lent::<5, _>(|out| knob.new_beta(beta, out)),
+            Reason::Unsettled,
+        );
+    }
     assert_eq!(knob, kept);
     plain(
         lent::<5, _>(|out| Lowpass::new(NAN, -1.0, Window::Hann, out)),
