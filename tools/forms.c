@@ -32,9 +32,14 @@ static struct words fewest(double x, int digits, double (*read)(const char *))
     return w;
 }
 
+struct words words_of(double x)
+{
+    return fewest(x, 15, read_f64);
+}
+
 void say_number(FILE *to, double x)
 {
-    fputs(fewest(x, 15, read_f64).text, to);
+    fputs(words_of(x).text, to);
 }
 
 /* With all digits; a NaN, which extreme sections have, without its sign. */
@@ -70,7 +75,7 @@ static void say_constant(FILE *to, double x, struct words w, const char *suffix)
 
 static void say_double(FILE *to, double x)
 {
-    say_constant(to, x, fewest(x, 15, read_f64), "");
+    say_constant(to, x, words_of(x), "");
 }
 
 static void say_float(FILE *to, double x)

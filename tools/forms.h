@@ -54,6 +54,7 @@ void print_c(FILE *to, const struct form *f, const uint8_t *bytes, size_t n, con
 void worth(const struct form *f, const uint8_t *bytes, size_t n, double *out);
 
 /* With the fewest digits that still name the number. */
+struct words words_of(double x);
 void say_number(FILE *to, double x);
 
 /* Half samples in samples, with the half: 127 as 63.5 samples. */

@@ -23,7 +23,8 @@ static const struct help helps[] = {
      "  --cutoff HZ        where the response is down to a half; above 0 and below half the rate\n" RATE_HELP
      "  --taps N           how many taps; 1 to 2^24\n"
      "  --window W         hann, hamming (if not said), blackman or kaiser\n"
-     "  --beta B           the shape of Kaiser's window, which needs it; finite and not negative\n"
+     "  --beta B           the shape of Kaiser's window, which needs it; finite and not negative, and its series\n"
+     "                     settles up to about 714\n"
      "  --turns LIST       then turn the knob: cutoff=HZ, cutoff=HZ@RATE or beta=B, with commas between; the taps are\n"
      "                     those of the last turn, and a turn that is refused is told with its words\n" TAP_HELP,
      "lowpass --cutoff 1000 --rate 8000 --taps 31 --window kaiser --beta 5.65326"},
@@ -32,15 +33,18 @@ static const struct help helps[] = {
      "                     the rate\n"
      "  --transition HZ    from the end of the passband to the start of the stopband; finite and above 0, and\n"
      "                     wide enough for 2^24 taps\n"
-     "  --attenuation DB   how deep the stopband is; finite, and 8 or more\n" RATE_HELP
+     "  --attenuation DB   how deep the stopband is; finite, and 8 or more, and the window's series settles up to\n"
+     "                     about 6488\n" RATE_HELP
      "  --max-taps N       refuse a design of more taps; 2^24 if not said\n" TAP_HELP,
      "spec --cutoff 1000 --transition 200 --attenuation 60 --rate 8000"},
     {"halfband", "a half-band filter by its taps, or by its transition",
      "  --taps N           how many taps; 3 mod 4, such as 3, 7 or 11, and at most 2^24\n"
-     "  --beta B           the shape of Kaiser's window; finite and not negative\n"
+     "  --beta B           the shape of Kaiser's window; finite and not negative, and its series settles up to\n"
+     "                     about 714\n"
      "  --transition HZ    how wide the transition around a quarter of the rate is; finite and above 0, and\n"
      "                     wide enough for 2^24 taps\n"
-     "  --attenuation DB   how deep the stopband is; finite, and 8 or more\n" RATE_HELP TAP_HELP,
+     "  --attenuation DB   how deep the stopband is; finite, and 8 or more, and the window's series settles up to\n"
+     "                     about 6488\n" RATE_HELP TAP_HELP,
      "halfband --transition 500 --attenuation 60 --rate 8000"},
     {"gaussian", "the Gaussian pulse of GFSK and GMSK",
      "  --bt X             the bandwidth in symbol rates; 0.2 to 1\n"
@@ -77,7 +81,9 @@ static const struct help helps[] = {
      "preemphasis --tau 50e-6 --rate 48000"},
     {"hann", "a Hann window", WINDOW_HELP, "hann --samples 64"},
     {"blackman-harris", "a Blackman-Harris window of four terms", WINDOW_HELP, "blackman-harris --samples 64"},
-    {"kaiser", "a Kaiser window", "  --beta B           the window's shape; finite and not negative\n" WINDOW_HELP,
+    {"kaiser", "a Kaiser window",
+     "  --beta B           the window's shape; finite and not negative, and its series settles up to\n"
+     "                     about 714\n" WINDOW_HELP,
      "kaiser --beta 8.6 --samples 64 --symmetry symmetric"},
 };
 

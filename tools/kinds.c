@@ -29,12 +29,32 @@ const char *common_meaning(uint32_t number)
     case PEL_TOO_MANY_TAPS:
         return "more taps are needed than --max-taps allows";
     case PEL_BAD_SUM:
-        return "the sum that the taps are divided by is zero or not finite: too few taps, or beta too large";
+        return "the sum that the taps are divided by is zero or not finite: too few taps for the window";
     case PEL_BAD_ELEMENT:
         return "a tap is too large for Q15";
     default:
         return "the ticket is refused";
     }
+}
+
+/* A series that doesn't settle, and what to do about it: by the beta, or by the attenuation that beta is for, whose size
+ * counts. */
+static const char *unsettled(const char *before, double x, const char *after)
+{
+    static char text[200];
+    snprintf(text, sizeof text, "a Bessel series of Kaiser's window doesn't settle at %s%s%s", before, words_of(x).text,
+             after);
+    return text;
+}
+
+static const char *unsettled_beta(double beta)
+{
+    return unsettled("beta ", beta, ": take a beta of 713 or less (above about 714 none settles)");
+}
+
+static const char *unsettled_attenuation(double attenuation)
+{
+    return unsettled("", pel_fabs(attenuation), " dB: take 6478 dB or less (above about 6488 dB none settles)");
 }
 
 static pel_report counted(uint64_t n)
@@ -69,7 +89,7 @@ static pel_report fill_lowpass(const struct ticket *t, uint8_t *out, size_t byte
     return k.report;
 }
 
-static const char *lowpass_meaning(uint32_t number)
+static const char *lowpass_meaning(const struct ticket *t, uint32_t number)
 {
     switch (number) {
     case PEL_BAD_FREQUENCY:
@@ -80,6 +100,8 @@ static const char *lowpass_meaning(uint32_t number)
         return "the number of taps must be from 1 to 2^24";
     case PEL_BAD_CODE:
         return "only Kaiser's window has a beta to turn";
+    case PEL_NOT_SETTLED:
+        return unsettled_beta(refused.beta ? refused.to : t->beta);
     default:
         return common_meaning(number);
     }
@@ -88,9 +110,8 @@ static const char *lowpass_meaning(uint32_t number)
 /* A turn's refusal begins with the turn. */
 static const char *mean_lowpass(const struct ticket *t, const pel_report *r)
 {
-    static char text[200];
-    const char *meaning = lowpass_meaning(r->number);
-    (void)t;
+    static char text[300];
+    const char *meaning = lowpass_meaning(t, r->number);
     if (refused.letters == 0)
         return meaning;
     snprintf(text, sizeof text, "at the turn %.*s, %s", refused.letters < 80 ? refused.letters : 80, refused.word,
@@ -110,12 +131,13 @@ static pel_report fill_spec(const struct ticket *t, uint8_t *out, size_t bytes)
 
 static const char *mean_spec(const struct ticket *t, const pel_report *r)
 {
-    (void)t;
     switch (r->number) {
     case PEL_BAD_FREQUENCY:
         return "the cutoff must lie above 0, and half the transition or more below half the rate";
     case PEL_BAD_COUNT:
         return "these numbers ask for more than 2^24 taps";
+    case PEL_NOT_SETTLED:
+        return unsettled_attenuation(t->attenuation);
     default:
         return NULL;
     }
@@ -152,6 +174,8 @@ static const char *mean_halfband(const struct ticket *t, const pel_report *r)
         if (by_transition)
             return "these numbers ask for more than 2^24 taps";
         return "the number of taps must be 3 mod 4, such as 3, 7 or 11, and at most 2^24";
+    case PEL_NOT_SETTLED:
+        return by_transition ? unsettled_attenuation(t->attenuation) : unsettled_beta(t->beta);
     default:
         return NULL;
     }
@@ -337,11 +361,12 @@ static pel_report judge_window(struct ticket *t)
     return counted(t->samples);
 }
 
-/* beta is judged for an empty buffer too. */
+/* beta is judged for an empty buffer too. Two samples take the series at beta, as any more do, and what is refused for
+ * two is refused for them: so no memory is wanted for that. */
 static pel_report judge_kaiser(struct ticket *t)
 {
-    uint8_t nothing = 0;
-    pel_report r = pel_kaiser_f32(t->beta, t->symmetry, &nothing, 0);
+    uint8_t two[2 * 4];
+    pel_report r = pel_kaiser_f32(t->beta, t->symmetry, two, t->samples < 2 ? 4 * (size_t)t->samples : sizeof two);
     return r.number == PEL_ACCEPTED ? judge_window(t) : r;
 }
 
@@ -367,8 +392,14 @@ static pel_report fill_kaiser(const struct ticket *t, uint8_t *out, size_t bytes
 
 static const char *mean_window(const struct ticket *t, const pel_report *r)
 {
-    (void)t;
-    return r->number == PEL_BAD_ATTENUATION ? bad_beta : NULL;
+    switch (r->number) {
+    case PEL_BAD_ATTENUATION:
+        return bad_beta;
+    case PEL_NOT_SETTLED:
+        return unsettled_beta(t->beta);
+    default:
+        return NULL;
+    }
 }
 
 /* ---- The table --------------------------------------------------------------------------------- */
