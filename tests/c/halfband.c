@@ -6,9 +6,6 @@
 
 static const double inf = INFINITY, quiet = NAN, tiny = 5e-324;
 
-/* The largest beta whose series has a finite sum. */
-static const double last_beta = 713.98690854396818;
-
 static void accepted(double beta, uint64_t n)
 {
     static double want[8192];
@@ -62,12 +59,30 @@ static void designs(void)
         }
 
     expect_count("beta -0 is taken", pel_halfband_new(-0.0, 7).number, 0);
-    expect_count("the largest beta is taken", pel_halfband_new(last_beta, 7).number, 0);
 
     /* The Rust's example: a length from a transition is one that a half-band has. */
     pel_report r = pel_halfband_len(0.1, 60, 1);
     expect_count("a length is 3 mod 4", r.count % 4, 3);
     expect_count("and is taken", pel_halfband_new(pel_kaiser_beta(60), r.count).number, 0);
+}
+
+/* Past 713: a beta that settles is accepted, and another refused with 16, of every length; three taps at least have a
+ * series at beta and one for each. */
+static void betas(void)
+{
+    static const uint64_t lengths[] = {3, 7, 11, 127, 1027};
+    for (size_t i = 0; i < COUNT(lengths); i++) {
+        uint64_t n = lengths[i];
+        for (size_t k = 0; k < COUNT(settled_betas); k++) {
+            accepted(settled_betas[k], n);
+            from_lowpass(settled_betas[k], n);
+        }
+        for (size_t k = 0; k < COUNT(unsettled_betas); k++) {
+            double beta = unsettled_betas[k];
+            REFUSED(pel_halfband(beta, lend(8 * n), 8 * n), plain(16));
+            PLAIN(pel_halfband_new(beta, n), 16);
+        }
+    }
 }
 
 static void examples(void)
@@ -83,12 +98,12 @@ static void examples(void)
     near("23 taps add up to 1", sum_of_taps(23), 1.0, 1e-14);
 
     /* By the limits: 16777219 leaves 3 mod 4 but is above 2^24, whatever the beta; of 23 taps the beta
-     * is told. The series at 1000 is past the largest double. */
+     * is told. The series at 1000 is past the largest double, and isn't settled. */
     PLAIN(pel_halfband_new(5, 16777219), 6);
     PLAIN(pel_halfband_new(-1, 16777219), 6);
     PLAIN(pel_halfband_new(quiet, 23), 4);
     PLAIN(pel_halfband_new(-1, 23), 4);
-    PLAIN(pel_halfband_new(1000, 23), 10);
+    PLAIN(pel_halfband_new(1000, 23), 16);
 }
 
 static void refusals(void)
@@ -123,18 +138,23 @@ static void refusals(void)
     REFUSED(pel_halfband(-tiny, lend(8 * 3), 8 * 3), plain(4));
     PLAIN(pel_halfband_new(-1, 7), 4);
 
-    REFUSED(pel_halfband(1e4, lend(8 * 7), 8 * 7), plain(10));
-    REFUSED(pel_halfband(nextafter(last_beta, inf), lend(8 * 1027), 8 * 1027), plain(10));
-    PLAIN(pel_halfband_new(nextafter(last_beta, inf), 7), 10);
+    /* Before the whole of a long buffer, which may not even be read. */
+    locked = forbidden(bytes);
+    report("6 before 16", pel_halfband(1e4, locked, bytes), plain(6));
+    report("16", pel_halfband(1e4, locked, bytes - 32), plain(16));
+    munmap(locked, bytes);
+    PLAIN(pel_halfband_new(1e4, 16777215), 16);
 }
 
-/* Every combination of a length and a beta, good or bad: 8, then 6, 4, 10. */
+/* Every combination of a length and a beta, good or bad: 8, then 6, 4, 16. No ticket is known that gives 10: the middle
+ * tap of a beta that settles has the window 1, and the sum is about 1. */
 static void orders(void)
 {
-    static const double betas[] = {0.0, -0.0, 5.0, 1e4, 1e308, -1e-300, -5.0, INFINITY, -INFINITY, NAN};
+    static const double all[] = {0.0,   -0.0,    5.0,  713.98690854396818, 713.9869085439683, 750.0, 1e4,
+                                 1e308, -1e-300, -5.0, INFINITY,           -INFINITY,         NAN};
     for (size_t bytes = 0; bytes <= 8 * 23 + 3; bytes++)
-        for (size_t k = 0; k < sizeof betas / sizeof betas[0]; k++) {
-            double beta = betas[k];
+        for (size_t k = 0; k < COUNT(all); k++) {
+            double beta = all[k];
             pel_report r = pel_halfband(beta, lend(bytes), bytes);
             if (bytes % 8 != 0)
                 report("8 first", r, length(bytes - bytes % 8, bytes));
@@ -142,8 +162,8 @@ static void orders(void)
                 report("then 6", r, plain(6));
             else if (!(beta >= 0.0 && beta < inf))
                 report("then 4", r, plain(4));
-            else if (beta > last_beta)
-                report("then 10", r, plain(10));
+            else if (!straight_settles(beta, bytes / 8 - 1, bytes / 8))
+                report("then 16", r, plain(16));
             else
                 expect_count("accepted", r.number, 0);
             r.number == 0 ? around("accepted") : as_it_came("refused");
@@ -169,6 +189,7 @@ static void hostile(void)
 static void tests(void)
 {
     designs();
+    betas();
     examples();
     refusals();
     orders();

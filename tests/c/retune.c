@@ -3,6 +3,8 @@
  * around it; tickets with two faults each, for the order of the refusals; and records that no design gave. */
 #include "ticket.h"
 
+#include "straight.h"
+
 static const double inf = INFINITY, quiet = NAN, tiny = 5e-324;
 
 /* The record of pel_lowpass's numbers, by the request: what pel_lowpass doesn't tell are a quotient and the series. */
@@ -68,10 +70,19 @@ static void lists(void)
 {
     const struct turn kaiser[] = {
         {1200, 8000, 0},  {4000, 8000, 2}, {8, 0, 0},       {quiet, 0, 4},   {700, 6000, 0}, {700, quiet, 1},
-        {700, -6000, 1},  {-tiny, 0, 4},   {0, 0, 0},       {-0.0, 0, 0},    {inf, 0, 4},    {1e4, 0, 10},
+        {700, -6000, 1},  {-tiny, 0, 4},   {0, 0, 0},       {-0.0, 0, 0},    {inf, 0, 4},    {1e4, 0, 16},
         {quiet, 8000, 2}, {12, 0, 0},      {24000, 1e5, 0}, {tiny, 8000, 2}, {1, 1e9, 0},    {3.9, 0, 0},
     };
     list("Kaiser's list", PEL_KAISER, kaiser, COUNT(kaiser));
+    /* About the last beta that settles: after a refusal the next turn goes on from the numbers accepted last. */
+    const double next = nextafter(last_settled, inf);
+    const struct turn edge[] = {
+        {713, 0, 0},    {next, 0, 16},  {1200, 8000, 0}, {last_settled, 0, 0}, {750, 0, 16},
+        {700, 6000, 0}, {1e308, 0, 16}, {1e3, 0, 16},    {713.5, 0, 0},        {714, 0, 16},
+        {quiet, 0, 4},  {754, 0, 16},   {4000, 8000, 2}, {713.98, 0, 0},       {0.3, 1, 0},
+        {next, 0, 16},  {5, 0, 0},      {next, 0, 16},   {last_settled, 0, 0},
+    };
+    list("Kaiser's edge", PEL_KAISER, edge, COUNT(edge));
     const struct turn others[] = {{8, 0, 7},       {1200, 8000, 0},  {quiet, 0, 7},   {4000, 8000, 2},
                                   {1200, inf, 1},  {0.3, 1, 0},      {0, 8000, 2},    {6, 0, 7},
                                   {0.49999, 1, 0}, {-1000, 8000, 2}, {1200, 48000, 0}};
@@ -80,10 +91,33 @@ static void lists(void)
     list("Blackman's list", PEL_BLACKMAN, others, COUNT(others));
 }
 
-/* ---- One tap: its window is 1, so that a series that overflows is no refusal and is kept as it was reached ----- */
+/* ---- One tap: its window is 1 and takes no series; its record keeps what the series at beta reached --- */
 
 static void one_tap(void)
 {
+    for (size_t k = 0; k < COUNT(unsettled_betas); k++) {
+        double beta = unsettled_betas[k], reached = pel_bessel_i0(beta).value;
+        expect("what is reached", reached, straight_series(beta).sum);
+        pel_tuned t = pel_design_lowpass(0.25, 1, PEL_KAISER, beta, lend(8), 8);
+        report("one tap", t.report, (pel_report){.count = 1, .value = 0.5});
+        same_record("one tap", t.design, (pel_design){1, 0.25, PEL_KAISER, beta, reached, 0.5});
+        expect("its tap", tap(0), 1.0);
+        around("one tap");
+        t = pel_design_new_cutoff(t.design, 0.125, 1, lend(8), 8);
+        report("its new cutoff", t.report, (pel_report){.count = 1, .value = 0.25});
+        same_record("its new cutoff", t.design, (pel_design){1, 0.125, PEL_KAISER, beta, reached, 0.25});
+        t = pel_design_new_beta(t.design, 5, lend(8), 8);
+        same_record("a beta that settles", t.design, recorded(0.125, 1, PEL_KAISER, 5, 1));
+        t = pel_design_new_beta(t.design, beta, lend(8), 8);
+        same_record("and back", t.design, (pel_design){1, 0.125, PEL_KAISER, beta, reached, 0.25});
+        expect("its tap", tap(0), 1.0);
+        around("and back");
+        /* The series that its record has is nothing to one tap. */
+        t.design.series = quiet;
+        t = pel_design_new_cutoff(t.design, 0.25, 1, lend(8), 8);
+        same_record("another series", t.design, (pel_design){1, 0.25, PEL_KAISER, beta, quiet, 0.5});
+        expect("its tap", tap(0), 1.0);
+    }
     pel_tuned t = pel_design_lowpass(0.25, 1, PEL_KAISER, 1e4, lend(8), 8);
     expect_count("one tap", t.report.number, 0);
     same_record("one tap", t.design, (pel_design){1, 0.25, PEL_KAISER, 1e4, pel_bessel_i0(1e4).value, 0.5});
@@ -119,7 +153,56 @@ static void orders(void)
     kept_at("8 for no taps", pel_design_new_cutoff(k, 1000, 8000, lend(0), 0), k, length(5, 0));
     kept_at("1 before 2", pel_design_new_cutoff(k, quiet, 0, lend(40), 40), k, plain(1));
     kept_at("2", pel_design_new_cutoff(k, 4000, 8000, lend(40), 40), k, range(2, 0, 4000, 4000));
-    kept_at("10", pel_design_new_beta(k, 1e4, lend(40), 40), k, plain(10));
+    kept_at("16", pel_design_new_beta(k, 1e4, lend(40), 40), k, plain(16));
+
+    /* 7, 8 and 8 before 16, of a new beta. Two taps at so small a cutoff have a sum of 0 with a beta that settles, by
+     * underflow: 10, and with one that doesn't settle 16 before it. */
+    kept_at("7 before 16", pel_design_new_beta(h, 1e4, lend(40), 40), h, plain(7));
+    kept_at("8 in bytes before 16", pel_design_new_beta(k, 1e4, lend(41), 41), k, length(40, 41));
+    kept_at("8 in taps before 16", pel_design_new_beta(k, 1e4, lend(32), 32), k, length(5, 4));
+    pel_design two = pel_design_lowpass(1e-20, 1, PEL_KAISER, 5, lend(16), 16).design;
+    kept_at("10", pel_design_new_beta(two, 713, lend(16), 16), two, plain(10));
+    kept_at("16 before 10", pel_design_new_beta(two, 714, lend(16), 16), two, plain(16));
+    two = pel_design_lowpass(0.25, 1, PEL_KAISER, 713, lend(16), 16).design;
+    kept_at("10", pel_design_new_cutoff(two, 1e-20, 1, lend(16), 16), two, plain(10));
+}
+
+/* Every beta about the last that settles, as a first design, as a turn, and on the way back. */
+static void betas(void)
+{
+    static const uint64_t counts[] = {2, 3, 4, 7, 32};
+    const pel_design none = {0, 0, 0, 0, 0, 0};
+    for (size_t c = 0; c < COUNT(counts); c++) {
+        size_t bytes = 8 * counts[c];
+        pel_design five = pel_design_lowpass(1000, 8000, PEL_KAISER, 5, lend(bytes), bytes).design;
+        for (size_t i = 0; i < COUNT(settled_betas); i++) {
+            double beta = settled_betas[i];
+            pel_design d = {counts[c],
+                            0.125,
+                            PEL_KAISER,
+                            beta,
+                            straight_series(beta).sum,
+                            pel_lowpass_new(1000, 8000, PEL_KAISER, beta, counts[c]).value};
+            uint8_t fresh[8 * 32];
+            pel_report want = pel_lowpass(1000, 8000, PEL_KAISER, beta, fresh, bytes);
+            expect_count("settles", want.number, 0);
+            pel_tuned t = pel_design_lowpass(1000, 8000, PEL_KAISER, beta, lend(bytes), bytes);
+            report("designed", t.report, want);
+            same_record("designed", t.design, d);
+            expect_count("designed", (uint64_t)memcmp(out.at, fresh, bytes), 0);
+            around("designed");
+            t = pel_design_new_beta(five, beta, lend(bytes), bytes);
+            report("turned", t.report, want);
+            same_record("turned", t.design, d);
+            expect_count("turned", (uint64_t)memcmp(out.at, fresh, bytes), 0);
+            around("turned");
+        }
+        for (size_t i = 0; i < COUNT(unsettled_betas); i++) {
+            double beta = unsettled_betas[i];
+            kept_at("begun", pel_design_lowpass(1000, 8000, PEL_KAISER, beta, lend(bytes), bytes), none, plain(16));
+            kept_at("turned", pel_design_new_beta(five, beta, lend(bytes), bytes), five, plain(16));
+        }
+    }
 }
 
 /* ---- The first design, refused --------------------------------------------------------------------- */
@@ -132,6 +215,14 @@ static void begun(void)
     kept_at("begun with 1", pel_design_lowpass(1000, 0, 3, quiet, lend(0), 0), none, plain(1));
     kept_at("begun with 6", pel_design_lowpass(1000, 8000, 3, quiet, lend(0), 0), none, plain(6));
     kept_at("begun with 4", pel_design_lowpass(1000, 8000, 3, quiet, lend(16), 16), none, plain(4));
+    kept_at("begun with 16", pel_design_lowpass(1000, 8000, 3, 1e4, lend(16), 16), none, plain(16));
+    kept_at("7 before 16", pel_design_lowpass(1000, 8000, 4, 1e4, lend(16), 16), none, plain(7));
+    kept_at("8 before 16", pel_design_lowpass(1000, 8000, 3, 1e4, lend(17), 17), none, length(16, 17));
+    kept_at("1 before 16", pel_design_lowpass(1000, inf, 3, 1e4, lend(16), 16), none, plain(1));
+    kept_at("2 before 16", pel_design_lowpass(4000, 8000, 3, 1e4, lend(16), 16), none, range(2, 0, 4000, 4000));
+    kept_at("6 before 16", pel_design_lowpass(1000, 8000, 3, 1e4, lend(0), 0), none, plain(6));
+    kept_at("16 before 10", pel_design_lowpass(1e-20, 1, 3, 714, lend(16), 16), none, plain(16));
+    kept_at("10 alone", pel_design_lowpass(1e-20, 1, 3, 713, lend(16), 16), none, plain(10));
     kept_at("begun with 10", pel_design_lowpass(1000, 8000, 0, quiet, lend(16), 16), none, plain(10));
     /* A record of zeros is one of Hann's window without taps. */
     kept_at("no beta for it", pel_design_new_beta(none, 6, lend(0), 0), none, plain(7));
@@ -184,13 +275,59 @@ static void forged(void)
     around("healed");
 }
 
+/* 16 goes by the beta and the taps, whatever the series is: it may be one that settled, or give a sum of 0. */
+static void forged_betas(void)
+{
+    const pel_design good = pel_design_lowpass(1000, 8000, PEL_KAISER, 6, lend(40), 40).design;
+    static const double held[] = {1.0, 67.23, 0.0, INFINITY, NAN};
+    for (size_t i = 0; i < COUNT(held); i++) {
+        pel_design u = good;
+        u.beta = 1e4;
+        u.series = held[i];
+        kept_at("16 by its beta", pel_design_new_cutoff(u, 1200, 8000, lend(40), 40), u, plain(16));
+        u.window = 4;
+        kept_at("7 before 16", pel_design_new_cutoff(u, 1200, 8000, lend(40), 40), u, plain(7));
+        u.window = PEL_KAISER;
+        kept_at("8 in bytes before 16", pel_design_new_cutoff(u, 1200, 8000, lend(41), 41), u, length(40, 41));
+        kept_at("8 in taps before 16", pel_design_new_cutoff(u, 1200, 8000, lend(48), 48), u, length(5, 6));
+        kept_at("1 before 16", pel_design_new_cutoff(u, 1200, 0, lend(40), 40), u, plain(1));
+        kept_at("2 before 16", pel_design_new_cutoff(u, 0, 8000, lend(40), 40), u, range(2, 0, 4000, 0));
+        u.taps = 0;
+        kept_at("6 before 16", pel_design_new_cutoff(u, 1200, 8000, lend(0), 0), u, plain(6));
+        kept_at("6 before 16", pel_design_new_beta(u, 1e4, lend(0), 0), u, plain(6));
+        u.taps = 5;
+        u.fraction = 0.5;
+        kept_at("2 before 16", pel_design_new_beta(u, 1e4, lend(40), 40), u, range(2, 0, 0.5, 0.5));
+        /* To a new beta the old one is nothing, nor is the series. */
+        u.fraction = 0.125;
+        kept_at("16 by the new beta", pel_design_new_beta(u, 714, lend(40), 40), u, plain(16));
+        pel_design healed = pel_design_new_beta(u, 7, lend(40), 40).design;
+        same_record("healed", healed, recorded(1000, 8000, PEL_KAISER, 7, 5));
+        /* And to a window without a beta. */
+        u.window = PEL_HANN;
+        expect_count("Hann's beta", pel_design_new_cutoff(u, 1200, 8000, lend(40), 40).report.number, 0);
+    }
+    /* Too many taps, and then as many as there may be, in a buffer that may not even be read. */
+    size_t bytes = ((size_t)1 << 27) + 8;
+    uint8_t *locked = forbidden(bytes);
+    pel_design u = good;
+    u.taps = 16777217;
+    lend(0);
+    kept_at("6 before 16", pel_design_new_beta(u, 1e4, locked, bytes), u, plain(6));
+    u.taps = 16777216;
+    kept_at("16", pel_design_new_beta(u, 1e4, locked, bytes - 8), u, plain(16));
+    munmap(locked, bytes);
+}
+
 static void all(void)
 {
     lists();
     one_tap();
     orders();
+    betas();
     begun();
     forged();
+    forged_betas();
 }
 
 int main(void)

@@ -5,6 +5,7 @@
 
 #include <math.h>
 #include <stddef.h>
+#include <stdint.h>
 
 static const double pi = 3.141592653589793;
 
@@ -19,6 +20,56 @@ static inline double straight_i0(double x)
             break;
     }
     return sum;
+}
+
+/* The same term by term in doubles, each from the one before, as the scope document counts them: the sum after the
+ * first term below 1e-17 of it, or after 500. It is settled where such a term was met and the sum is finite. */
+struct straight_series {
+    double sum;
+    uint64_t terms;
+    int settled;
+};
+
+static inline struct straight_series straight_series(double x)
+{
+    double term = 1.0, sum = 1.0;
+    for (uint64_t k = 1; k <= 500; k++) {
+        double root = x / 2.0 / (double)k;
+        term *= root * root;
+        sum += term;
+        if (term < 1e-17 * sum)
+            return (struct straight_series){sum, k, isfinite(sum)};
+    }
+    return (struct straight_series){sum, 500, 0};
+}
+
+/* The last beta that settles, and betas about it: from 713 on those that settle, and those that don't, with the next
+ * double first. The sums of these are infinite; up to 754 they meet their test, from 757.75 on they don't. */
+static const double last_settled = 713.98690854396818;
+static const double settled_betas[] = {
+    713.0, 713.0000000000001, 713.5, 713.9, 713.98, 713.98690854396807, 713.98690854396818};
+static const double unsettled_betas[] = {713.9869085439683, 714.0, 750.0, 754.0, 757.75, 1e3, 1e4, 1e100, 1e308};
+
+/* What Kaiser's window takes its series at, at element i with the length divisor d. */
+static inline double straight_argument(double beta, uint64_t d, uint64_t i)
+{
+    double t = 2.0 * (double)i / (double)d - 1.0, radicand = 1.0 - t * t;
+    return beta * sqrt(radicand > 0.0 ? radicand : 0.0);
+}
+
+/* Whether each series settles that a window of n elements takes, that at beta and one for each; none where d is 0. */
+static inline int straight_settles(double beta, uint64_t d, uint64_t n)
+{
+    int settled = d == 0 || straight_series(beta).settled;
+    for (uint64_t i = 0; d != 0 && settled && i < n; i++)
+        settled = straight_series(straight_argument(beta, d, i)).settled;
+    return settled;
+}
+
+/* Element i to the bit: the root of the C library is rounded once too. */
+static inline double straight_element(double beta, uint64_t d, uint64_t i)
+{
+    return d == 0 ? 1.0 : straight_series(straight_argument(beta, d, i)).sum / straight_series(beta).sum;
 }
 
 /* Kaiser's window of n taps at tap i. */

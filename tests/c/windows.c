@@ -202,24 +202,54 @@ static void examples(void)
     }
 }
 
-/* Past 713 the series overflows: infinity by itself is NaN, anything else by infinity is 0; in Q15 both are 0. */
-static void overflows(void)
+/* ---- Kaiser's window past 713: settled and accepted, or refused with 16 ------------------------------ */
+
+/* D: n, or one less where the window is symmetric; 0 for no samples. */
+static uint64_t divisor(uint64_t symmetry, uint64_t n)
 {
-    static const double betas[] = {720, 1e3, 1e4, 1e100, 1.7976931348623157e308};
-    for (size_t k = 0; k < COUNT(betas); k++)
-        for (uint64_t symmetry = PEL_PERIODIC; symmetry <= PEL_SYMMETRIC; symmetry++) {
-            report("an overflowing series", pel_kaiser_f32(betas[k], symmetry, lend(36), 36), counted(9));
-            around("an overflowing series");
-            double d = symmetry == PEL_SYMMETRIC ? 8.0 : 9.0;
-            for (int i = 0; i < 9; i++) {
-                double t = 2.0 * i / d - 1.0, x = betas[k] * sqrt(fmax(0.0, 1.0 - t * t));
-                expect("an overflowing series", sample((uint64_t)i), x > 714.0 ? quiet : 0.0);
+    return symmetry == PEL_SYMMETRIC && n > 0 ? n - 1 : n;
+}
+
+/* To the bit, and by the formula. */
+static void settled(double beta, uint64_t symmetry, uint64_t n)
+{
+    uint64_t d = divisor(symmetry, n);
+    expect_count("settles", (uint64_t)straight_settles(beta, d, n), 1);
+    accepted(kaiser, beta, symmetry, n, 1e-12);
+    pel_kaiser_f32(beta, symmetry, lend(4 * n), 4 * n);
+    for (uint64_t i = 0; i < n; i++)
+        expect("a sample that settles", sample(i), (float)straight_element(beta, d, i));
+    pel_kaiser_q15(beta, symmetry, lend(2 * n), 2 * n);
+    for (uint64_t i = 0; i < n; i++)
+        expect("a sample that settles", code(i), straight_q15(straight_element(beta, d, i)));
+}
+
+static void betas(void)
+{
+    static const double ones[] = {1}, full[] = {32767};
+    static const uint64_t lengths[] = {0, 1, 2, 3, 4, 5, 8, 9, 64, 255};
+    for (uint64_t symmetry = PEL_PERIODIC; symmetry <= PEL_SYMMETRIC; symmetry++)
+        for (size_t i = 0; i < COUNT(lengths); i++) {
+            uint64_t n = lengths[i];
+            for (size_t k = 0; k < COUNT(settled_betas); k++)
+                settled(settled_betas[k], symmetry, n);
+            for (size_t k = 0; k < COUNT(unsettled_betas); k++) {
+                double beta = unsettled_betas[k];
+                /* No series is taken where there are no samples, and for a symmetric window of one. */
+                if (divisor(symmetry, n) == 0) {
+                    known(kaiser, beta, symmetry, n, ones, full);
+                    continue;
+                }
+                REFUSED(pel_kaiser_f32(beta, symmetry, lend(4 * n), 4 * n), plain(16));
+                REFUSED(pel_kaiser_q15(beta, symmetry, lend(2 * n), 2 * n), plain(16));
             }
-            report("an overflowing series", pel_kaiser_q15(betas[k], symmetry, lend(18), 18), counted(9));
-            around("an overflowing series");
-            for (uint64_t i = 0; i < 9; i++)
-                expect("an overflowing series", code(i), 0.0);
         }
+    /* One sample by name: a symmetric one is 1, and a periodic one takes its series. */
+    known(kaiser, huge, PEL_SYMMETRIC, 1, ones, full);
+    REFUSED(pel_kaiser_f32(huge, PEL_PERIODIC, lend(4), 4), plain(16));
+    REFUSED(pel_kaiser_q15(huge, PEL_PERIODIC, lend(2), 2), plain(16));
+    REPORT(pel_kaiser_f32(huge, PEL_PERIODIC, lend(0), 0), counted(0));
+    REPORT(pel_kaiser_q15(huge, PEL_SYMMETRIC, lend(0), 0), counted(0));
 }
 
 /* ---- What windows do --------------------------------------------------------------------------- */
@@ -374,7 +404,7 @@ static void gain_refusals(void)
 
 /* ---- Refusals ---------------------------------------------------------------------------------- */
 
-/* 7, 8, and Kaiser's 4. */
+/* 7, 8, and Kaiser's 4 and 16. */
 static void told(const struct shape *s, window *fill, size_t width, double beta, uint64_t symmetry, size_t bytes)
 {
     pel_report r = fill(beta, symmetry, lend(bytes), bytes);
@@ -384,6 +414,8 @@ static void told(const struct shape *s, window *fill, size_t width, double beta,
         report("then 8", r, length(bytes - bytes % width, bytes));
     else if (s->has_beta && !(beta >= 0.0 && beta < inf))
         report("then 4", r, plain(4));
+    else if (s->has_beta && !straight_settles(beta, divisor(symmetry, bytes / width), bytes / width))
+        report("then 16", r, plain(16));
     else
         report("accepted", r, counted(bytes / width));
     r.number == 0 ? around("accepted") : as_it_came("refused");
@@ -391,14 +423,15 @@ static void told(const struct shape *s, window *fill, size_t width, double beta,
 
 static void orders(void)
 {
-    static const double betas[] = {0.0, -0.0, 5.0, 1e308, -5e-324, -5.0, INFINITY, -INFINITY, NAN};
+    static const double all[] = {0.0,   -0.0,    5.0,  713.98690854396818, 713.9869085439683, 750.0, 1e3,
+                                 1e308, -5e-324, -5.0, INFINITY,           -INFINITY,         NAN};
     static const uint64_t symmetries[] = {0, 1, 2, 1ull << 32, 1ull << 63, UINT64_MAX};
     for (size_t s = 0; s < COUNT(shapes); s++)
-        for (size_t a = 0; a < COUNT(betas); a++)
+        for (size_t a = 0; a < COUNT(all); a++)
             for (size_t b = 0; b < COUNT(symmetries); b++)
                 for (size_t bytes = 0; bytes <= 33; bytes++) {
-                    told(&shapes[s], shapes[s].f32, 4, betas[a], symmetries[b], bytes);
-                    told(&shapes[s], shapes[s].q15, 2, betas[a], symmetries[b], bytes);
+                    told(&shapes[s], shapes[s].f32, 4, all[a], symmetries[b], bytes);
+                    told(&shapes[s], shapes[s].q15, 2, all[a], symmetries[b], bytes);
                 }
 }
 
@@ -420,7 +453,6 @@ static void refusals(void)
     REFUSED(pel_kaiser_q15(-1, PEL_PERIODIC, lend(4), 4), plain(4));
     REFUSED(pel_kaiser_q15(-tiny, PEL_PERIODIC, lend(16), 16), plain(4));
     REFUSED(pel_kaiser_q15(inf, PEL_SYMMETRIC, lend(2), 2), plain(4));
-    expect_count("the largest beta is taken", pel_kaiser_f32(huge, PEL_PERIODIC, lend(16), 16).number, 0);
 
     /* Buffers that may not even be read: these refusals need nothing of them. */
     size_t bytes = (size_t)1 << 32;
@@ -433,6 +465,10 @@ static void refusals(void)
     }
     report("a huge window", pel_kaiser_f32(quiet, 0, locked, bytes), plain(4));
     report("a huge window", pel_kaiser_q15(-1, 1, locked, bytes), plain(4));
+    report("7 before 16", pel_kaiser_f32(1e4, 2, locked, bytes), plain(7));
+    report("8 before 16", pel_kaiser_f32(1e4, 0, locked, bytes - 1), length(bytes - 4, bytes - 1));
+    report("a huge window", pel_kaiser_f32(1e4, 0, locked, bytes), plain(16));
+    report("a huge window", pel_kaiser_q15(714, 1, locked, bytes), plain(16));
     munmap(locked, bytes);
 }
 
@@ -454,7 +490,7 @@ static void tests(void)
 {
     formulas();
     examples();
-    overflows();
+    betas();
     static const uint64_t lengths[] = {1, 2, 3, 4, 9, 64, 1000, 1023, 4096};
     for (size_t i = 0; i < COUNT(lengths); i++) {
         properties(hann, 0, lengths[i]);
