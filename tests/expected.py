@@ -23,6 +23,7 @@ from pathlib import Path
 getcontext().prec = 50
 FOLDER = Path(__file__).resolve().parent.parent / "examples" / "c" / "expected"
 TINY = D(10) ** -45
+LARGEST = (2 - D(2) ** -52) * D(2) ** 1023  # of the doubles
 
 
 # ---- Numbers
@@ -82,6 +83,19 @@ def bessel_i0(x):
     return total
 
 
+def settled(x):
+    """Whether that series is settled: one of its first 500 terms is below 1e-17 of the sum, and the sum is finite. It
+    must not hang on the last places."""
+    term, total = D(1), D(1)
+    for k in range(1, 501):
+        term *= (x / (2 * k)) ** 2
+        total += term
+        if term < D("1e-17") * total:
+            assert abs(total / LARGEST - 1) > D("1e-6"), f"the series at {x} is next to the largest double"
+            return total < LARGEST
+    return False
+
+
 def ceiling(x):
     """The whole number above; it must not hang on the last places."""
     whole = int(x.to_integral_value(rounding="ROUND_CEILING"))
@@ -133,9 +147,25 @@ def blackman_harris(i, n):
     return D("0.35875") - D("0.48829") * cos(a) + D("0.14128") * cos(2 * a) - D("0.01168") * cos(3 * a)
 
 
-def kaiser(beta):
-    norm = bessel_i0(beta)
-    return lambda i, n: bessel_i0(beta * (1 - (D(2 * i) / n - 1) ** 2).sqrt()) / norm
+class Kaiser:
+    """Kaiser's window; it is 1, and takes no series, where n, the length divisor, is 0."""
+
+    def __init__(self, beta):
+        self.beta = D(beta)
+        self.norm = bessel_i0(self.beta)
+
+    def argument(self, i, n):
+        return self.beta * (1 - (D(2 * i) / n - 1) ** 2).sqrt()
+
+    def __call__(self, i, n):
+        return bessel_i0(self.argument(i, n)) / self.norm if n != 0 else D(1)
+
+    def judge(self, n, elements):
+        """beta, and then each series that so many elements take."""
+        if self.beta < 0:
+            raise Refused(4)
+        if n != 0 and not all(map(settled, [self.beta, *(self.argument(i, n) for i in range(elements))])):
+            raise Refused(16)
 
 
 # ---- Kaiser's formulas
@@ -202,6 +232,8 @@ def lowpass(cutoff, rate, window, n):
         raise Refused(2, 0, rate / 2, cutoff)
     if not 1 <= n <= 2**24:
         raise Refused(6)
+    if isinstance(window, Kaiser):
+        window.judge(n - 1, n)
     edge = 2 * cutoff / rate
     return divided([real(edge) * sinc(edge * (i - F(n - 1, 2))) * window(i, n - 1) for i in range(n)])
 
@@ -224,13 +256,13 @@ def spec(cutoff, transition, attenuation, rate, most, room):
     n = spec_taps(cutoff, transition, attenuation, rate, most)
     if room != n:
         raise Refused(8, n, room)
-    return lowpass(cutoff, rate, kaiser(kaiser_beta(attenuation)), n)
+    return lowpass(cutoff, rate, Kaiser(kaiser_beta(attenuation)), n)
 
 
 def halfband(beta, n):
     if n % 4 != 3:
         raise Refused(6)
-    whole = lowpass("1/4", 1, kaiser(beta), n)
+    whole = lowpass("1/4", 1, Kaiser(beta), n)
     middle = (n - 1) // 2
     kept = [D(0) if i != middle and (i - middle) % 2 == 0 else whole[min(i, n - 1 - i)] for i in range(n)]
     return divided(kept)
@@ -298,7 +330,7 @@ def channelizer(channels, branch, passband, stopband, attenuation):
         raise Refused(6)
     channelizer_judged(channels, passband, stopband, attenuation)
     cutoff = (F(passband) + F(stopband)) / (2 * channels)
-    return lowpass(cutoff, 1, kaiser(kaiser_beta(attenuation)), channels * branch)
+    return lowpass(cutoff, 1, Kaiser(kaiser_beta(attenuation)), channels * branch)
 
 
 # ---- Sections
@@ -425,6 +457,10 @@ def print_lowpass():
     yield refused_range("a cutoff of {} isn't between {} and {}", refusal_of(lowpass, 4000, 8000, hamming, 7))
     if refusal_of(lowpass, 1000, 8000, hann, 2).number == 10:
         yield "refused with 10: the taps add up to 0"
+    if refusal_of(lowpass, 1000, 8000, Kaiser(1000), 7).number == 16:
+        yield f"refused with 16: a series doesn't settle at beta {short(1000)}"
+    beta = kaiser_beta(60)
+    yield f"beta {show(beta, 4)}: middle tap {show(lowpass(1000, 8000, Kaiser(beta), 7)[3], 4)}"
 
 
 def print_retune():
@@ -439,21 +475,21 @@ def print_retune():
 
     # The numbers that were accepted last: a cutoff from one turn, a beta from another.
     cutoff, beta = 1000, 5
-    yield from tell("cutoff", cutoff, lowpass(cutoff, 8000, kaiser(D(beta)), 31))
+    yield from tell("cutoff", cutoff, lowpass(cutoff, 8000, Kaiser(beta), 31))
     for turned in (800, 1200, 4000, 1500):
         try:
-            yield from tell("cutoff", turned, lowpass(turned, 8000, kaiser(D(beta)), 31))
+            yield from tell("cutoff", turned, lowpass(turned, 8000, Kaiser(beta), 31))
             cutoff = turned
         except Refused as refused:
             smallest, largest, offered = map(short, refused.carried)
             yield f"cutoff {offered}: refused with 2, it isn't between {smallest} and {largest}; the taps stay"
             assert refused.number == 2
     for turned in (2, 8, -1):
-        if turned < 0:
-            yield f"beta {turned}: refused with 4; the taps stay"
-            continue
-        beta = turned
-        yield from tell("beta  ", beta, lowpass(cutoff, 8000, kaiser(D(beta)), 31))
+        try:
+            yield from tell("beta  ", turned, lowpass(cutoff, 8000, Kaiser(turned), 31))
+            beta = turned
+        except Refused as refused:
+            yield f"beta {turned}: refused with {refused.number}; the taps stay"
     yield f"at the end cutoff {cutoff}, beta {beta}, the series at beta {show(bessel_i0(D(beta)), 4)}"
 
 
@@ -562,7 +598,7 @@ def print_preemphasis():
 
 def print_window():
     yield from (show(single(hann(i, 8)), 4) for i in range(8))
-    shapes = ("Hann", hann), ("Blackman-Harris", blackman_harris), ("Kaiser, beta 8", kaiser(D(8)))
+    shapes = ("Hann", hann), ("Blackman-Harris", blackman_harris), ("Kaiser, beta 8", Kaiser(8))
     for name, shape in shapes:
         samples = [single(shape(i, 1024)) for i in range(1024)]
         total = sum(samples)

@@ -34,5 +34,18 @@ int main(void)
     r = pel_lowpass_new(cutoff, rate, PEL_HANN, 0.0, 2);
     if (r.number == PEL_BAD_SUM)
         puts("refused with 10: the taps add up to 0");
+
+    /* Kaiser's window takes Bessel series, which don't settle where beta is above about 714: take a smaller one, such as
+     * that for 60 dB. */
+    double beta = 1000.0;
+    r = pel_lowpass(cutoff, rate, PEL_KAISER, beta, bytes, sizeof bytes);
+    if (r.number == PEL_NOT_SETTLED) {
+        printf("refused with 16: a series doesn't settle at beta %g\n", beta);
+        beta = pel_kaiser_beta(60.0);
+        r = pel_lowpass(cutoff, rate, PEL_KAISER, beta, bytes, sizeof bytes);
+    }
+    if (r.number != PEL_ACCEPTED)
+        return (int)r.number;
+    printf("beta %.4f: middle tap %.4f\n", beta, f64_at(bytes, TAPS / 2));
     return 0;
 }
