@@ -111,7 +111,7 @@ enum { PEL_NOTHING = 0, PEL_RANGE = 1, PEL_LENGTH = 2, PEL_CAP = 3, PEL_ELEMENT 
  * terms taken, 1 to 500. It stops after the first term below 1e-17 of the sum, or after 500. The series is
  * settled where such a term was met, the 500th included, and the sum is finite. Where it isn't, NaN and
  * infinities among them, the number is 16, and value and count are told all the same: what was reached.
- * Every x of a size up to 713 is settled, which is proved; the last is 713.98690854396818.
+ * Every x of a size up to 713 is settled, which is proved; the last one found is 713.98690854396818.
  * Examples: pel_bessel_i0(0) has the value 1 and takes one term; pel_bessel_i0(714) has the number 16, an
  * infinite value and takes 387 terms. */
 pel_report pel_bessel_i0(double x);

@@ -3,9 +3,9 @@
 use mathlib.Core.Path.{_≡_, refl, sym, ap, _∙_}
 use mathlib.Core.Bool.{Bool, true, false, _&&_}
 use Prim.Native.Nat.{ℕ, zero, suc}
-use lib.Ieee.{Float, binary64, ofBits, ofInt, round, mul, add, div, lt}
+use lib.Ieee.{Float, ofBits, ofInt, round, mul, add, div, lt}
 use lib.Ieee.Scale.{finite}
-use Rattle.laws.specs.Binary64.{_⊕_, _⊗_, _⊘_, whole}
+use Rattle.laws.specs.Binary64.{_⊕_, _⊗_, _⊘_, whole, b64}
 use Rattle.math_bessel.specs.Series.{term, partial, least, small, firstSmall, termsOf, seriesAt, seriesOf, settled}
 
 -- from the term t of number k and the sum s up to it, b says whether t ends the series, for d terms more at most
@@ -34,10 +34,10 @@ abbrev scanned : Float → Bool
 scanned h = scan h 499 (small h 1) 1 (term h 1) (partial h 1)
 
 abbrev last : Float
-last = ofBits binary64 0x4086_4FE5_304E_83E4
+last = b64 0x4086_4FE5_304E_83E4
 
 abbrev next : Float
-next = ofBits binary64 0x4086_4FE5_304E_83E5
+next = b64 0x4086_4FE5_304E_83E5
 
 scan-last : scanned (last ⊘ whole 2) ≡ true
 unfolding scan small term partial ofBits ofInt round mul add div lt

@@ -12,7 +12,7 @@ pub struct Series {
     pub terms: u64,
     /// Whether the sum is finite and a term below 1e-17 of it was met, the 500th included. Where this is false,
     /// Kaiser's window with such a beta is refused with 16. Every size up to 713 is settled, which is proved; the last
-    /// is 713.98690854396818.
+    /// one found is 713.98690854396818.
     pub settled: bool,
 }
 
