@@ -248,11 +248,12 @@ impl Tally {
     /// Runs the telling lists and random ones, until so many turns are compared or one differs where it may end there.
     fn lists(&mut self, side: &Side, count: u64, seed: u64, ends: bool) {
         let mut random = Random::new(seed ^ 100 << 56);
-        for list in inputs::telling() {
+        let mut telling = inputs::telling().into_iter().peekable();
+        while (telling.peek().is_some() || self.turns.compared < count)
+            && !(ends && self.differ() > 0)
+        {
+            let list = telling.next().unwrap_or_else(|| inputs::draw(&mut random));
             self.list(side, &list);
-        }
-        while self.turns.compared < count && !(ends && self.differ() > 0) {
-            self.list(side, &inputs::draw(&mut random));
         }
     }
 

@@ -17,7 +17,7 @@ use crate::run::totals::Totals;
 /// How many differing tickets are shown for each kind.
 pub const SHOWN: u64 = 8;
 
-/// How many random tickets a planted fault gets at most.
+/// How many tickets a planted fault gets at most.
 const FAULT_COUNT: u64 = 40_000;
 
 /// One side of the comparison: the report, and the buffer written or left.
@@ -282,11 +282,12 @@ fn random(about: &About, seed: u64) -> Random {
 fn notices(about: &About, wrong: Side, seed: u64) -> bool {
     let mut random = random(about, seed);
     let mut tally = Tally::new(about);
-    for ticket in inputs::telling(about.kind) {
-        tally.compare(about, &ticket, wrong, 0);
-    }
+    let mut telling = inputs::telling(about.kind).into_iter();
     while tally.differ == 0 && tally.compared < FAULT_COUNT {
-        tally.compare(about, &inputs::draw(about.kind, &mut random), wrong, 0);
+        let ticket = telling
+            .next()
+            .unwrap_or_else(|| inputs::draw(about.kind, &mut random));
+        tally.compare(about, &ticket, wrong, 0);
     }
     tally.differ > 0
 }
