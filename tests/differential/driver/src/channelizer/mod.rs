@@ -1,4 +1,4 @@
-//! The Rust's answers to a channelizer.
+//! The Rust's answers to a channelizer, and the request's to one whose window doesn't settle.
 
 pub mod bench;
 pub mod faults;
@@ -6,9 +6,12 @@ pub mod inputs;
 pub mod kinds;
 
 use sdrk_blocks::access::Lowpass;
-use sdrk_blocks::design::{channelizer_prototype, channelizer_taps, channelizer_taps_per_branch};
+use sdrk_blocks::design::{
+    channelizer_prototype, channelizer_taps, channelizer_taps_per_branch, kaiser_beta,
+};
 use sdrk_blocks::{Error, Result};
 
+use crate::kaiser::settling::judged_taps;
 use crate::run::designers::{Answer, counted, lent, recorded};
 use crate::run::report::Report;
 use crate::run::tickets::Channels;
@@ -59,14 +62,26 @@ pub fn count_per_branch(asked: &Channels) -> Report {
     )
 }
 
+/// The answer, or 16 where the prototype's window doesn't settle, for which no attenuation that is
+/// taken is large enough.
+fn judged(answer: impl Into<Answer>, asked: &Channels, branch: u64) -> Answer {
+    let taps = asked.channels.saturating_mul(branch);
+    judged_taps(answer, kaiser_beta(asked.attenuation), taps)
+}
+
 /// The Rust's record of the prototype.
-pub fn record(asked: &Channels, branch: u64) -> Report {
+fn rust_record(asked: &Channels, branch: u64) -> Report {
     recorded(prototype(asked, branch))
 }
 
-/// The Rust's prototype in a buffer.
+/// The record of the prototype.
+pub fn record(asked: &Channels, branch: u64) -> Report {
+    judged(rust_record(asked, branch), asked, branch).report
+}
+
+/// The prototype in a buffer.
 pub fn filled(asked: &Channels, branch: u64, bytes: u64) -> Answer {
-    lent(
+    let answer = lent(
         bytes,
         |taps| {
             Ok(channelizer_prototype(
@@ -78,6 +93,7 @@ pub fn filled(asked: &Channels, branch: u64, bytes: u64) -> Answer {
                 taps,
             )?)
         },
-        || record(asked, branch),
-    )
+        || rust_record(asked, branch),
+    );
+    judged(answer, asked, branch)
 }

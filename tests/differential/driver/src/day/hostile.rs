@@ -343,7 +343,7 @@ fn shorten(ticket: &mut Ticket) {
                 beta: *beta,
                 taps: 3,
             };
-            if matches!(designers::rust(&three).report.number, 0 | 10) {
+            if matches!(designers::rust(&three).report.number, 0 | 10 | 16) {
                 *taps %= 64;
             }
         }

@@ -1,4 +1,4 @@
-//! The Rust's answers to a half-band.
+//! The Rust's answers to a half-band, and the request's to one whose window doesn't settle.
 
 pub mod bench;
 pub mod faults;
@@ -9,6 +9,7 @@ use sdrk_blocks::Error;
 use sdrk_blocks::access::{Halfband, Lowpass};
 use sdrk_blocks::design::{DesignWindow, halfband_taps};
 
+use crate::kaiser::settling::judged_taps;
 use crate::run::designers::{Answer, Refused, lent, refusal};
 use crate::run::report::Report;
 
@@ -19,8 +20,8 @@ fn second(error: &Error, beta: f64) -> bool {
         && Lowpass::new(0.25, 1.0, DesignWindow::Kaiser { beta }, 1).is_ok()
 }
 
-/// The report of a half-band's record, or of the error in its place.
-pub fn record(beta: f64, taps: u64) -> Report {
+/// The report of the Rust's record of a half-band, or of the error in its place.
+fn rust_record(beta: f64, taps: u64) -> Report {
     match Halfband::new(beta, taps as usize) {
         Ok(halfband) => Report::accepted(taps, halfband.divisor()),
         Err(error) if second(&error, beta) => Report::plain(10),
@@ -28,9 +29,19 @@ pub fn record(beta: f64, taps: u64) -> Report {
     }
 }
 
-/// Both of the Rust's half-bands, which must agree on every tap and on every refusal.
+/// The record of a half-band.
+pub fn record(beta: f64, taps: u64) -> Report {
+    judged_taps(rust_record(beta, taps), beta, taps).report
+}
+
+/// The half-band in a buffer.
 pub fn filled(beta: f64, bytes: u64) -> Answer {
-    let again = || record(beta, bytes / 8);
+    judged_taps(rust_filled(beta, bytes), beta, bytes / 8)
+}
+
+/// Both of the Rust's half-bands, which must agree on every tap and on every refusal.
+fn rust_filled(beta: f64, bytes: u64) -> Answer {
+    let again = || rust_record(beta, bytes / 8);
     let answer = lent(
         bytes,
         |taps| {

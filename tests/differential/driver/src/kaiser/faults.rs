@@ -2,7 +2,7 @@
 
 use sdrk_blocks::design::kaiser_beta;
 
-use crate::kaiser::series;
+use crate::kaiser::settling::series;
 use crate::lowpass::faults::rate_refused;
 use crate::run::faults::{Fault, bad, changed, faults, of, right, swapped};
 use crate::run::report::Report;
@@ -31,10 +31,9 @@ fn order(ticket: &Ticket) -> [f64; 3] {
 
 /// The terms of the Bessel series, as many as are taken.
 fn terms(x: f64) -> Vec<f64> {
-    let (_, count) = series(x);
     let mut term = 1.0;
     let mut all = vec![term];
-    for k in 1..=count {
+    for k in 1..=series(x).terms {
         let factor = x / 2.0 / k as f64;
         term *= factor * factor;
         all.push(term);

@@ -1,38 +1,33 @@
-//! The Rust's answers to the series and to Kaiser's formulas, and the request's to the delay in half samples.
+//! The Rust's answers to the series and to Kaiser's formulas, and the requests' to a series that doesn't settle and to
+//! the delay in half samples.
 
 pub mod faults;
 pub mod inputs;
 pub mod kinds;
+pub mod settling;
 
 use sdrk_blocks::design::{halfband_len, kaiser_beta, kaiserord};
 use sdrk_core::window::bessel_i0;
 
 use crate::functions::same;
+use crate::kaiser::settling::{Series, series};
 use crate::run::designers::{counted, refusal};
 use crate::run::report::Report;
 
-/// The sum of the Bessel series and its number of terms, by the scope document: a term after
-/// another until one is below 1e-17 of the sum, at most 500.
-pub fn series(x: f64) -> (f64, u64) {
-    let (mut term, mut sum, mut terms) = (1.0, 1.0, 0);
-    while terms < 500 {
-        terms += 1;
-        let factor = x / 2.0 / terms as f64;
-        term *= factor * factor;
-        sum += term;
-        if term < 1e-17 * sum {
-            break;
-        }
-    }
-    (sum, terms)
-}
-
-/// The Rust's series, with the number of terms of the scope document's.
+/// The Rust's series, with the number of terms of the scope document's. One that doesn't settle is
+/// the request's 16, with what was reached.
 pub fn rust_series(x: f64) -> Report {
-    let (sum, terms) = series(x);
+    let Series {
+        sum,
+        terms,
+        settled,
+    } = series(x);
     let value = bessel_i0(x);
     assert!(same(sum, value), "the counted series of {x:?} is another");
-    Report::accepted(terms, value)
+    Report {
+        number: if settled { 0 } else { 16 },
+        ..Report::accepted(terms, value)
+    }
 }
 
 /// The Rust's shape of Kaiser's window.

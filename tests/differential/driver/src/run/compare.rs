@@ -116,7 +116,7 @@ impl Tally {
         let mut buffer = Lent::new(ticket.bytes(), self.lent.wrapping_add(self.compared));
         let other = side(ticket, buffer.part());
         self.compared += 1;
-        self.requested += u64::from(designers::is_requested(ticket));
+        self.requested += u64::from(designers::is_requested(ticket, &report));
         if report.is_accepted() {
             self.accepted += 1;
         } else {

@@ -136,7 +136,7 @@ pub fn lent(
 }
 
 /// The Rust side's answer. What isn't in the Rust (the border's codes and byte lengths, the number
-/// of terms) is from the scope document, and the delay from its request.
+/// of terms) is from the scope document, and the delay, odd orders and 16 from their requests.
 pub fn rust(ticket: &Ticket) -> Answer {
     match *ticket {
         Ticket::BesselI0 { x } => kaiser::rust_series(x).into(),
@@ -191,9 +191,9 @@ pub fn rust(ticket: &Ticket) -> Answer {
     }
 }
 
-/// Whether the answer is a request's definition: the Rust has another, or none.
-pub fn is_requested(ticket: &Ticket) -> bool {
-    matches!(ticket, Ticket::Delay { .. }) || sections::odd::answers(ticket)
+/// Whether the answer is a request's definition: the Rust has another, or none. It has no 16.
+pub fn is_requested(ticket: &Ticket, report: &Report) -> bool {
+    matches!(ticket, Ticket::Delay { .. }) || sections::odd::answers(ticket) || report.number == 16
 }
 
 /// The port's answer; the buffer has the length that the ticket says.

@@ -72,11 +72,11 @@ fn fits(about: &About, ticket: &Ticket, answer: &Answer) -> bool {
 /// The words of a ticket's line, the arguments and then the answer; or nothing if it is too long, or
 /// if the answer isn't the Rust's.
 fn words(about: &About, ticket: &Ticket) -> Option<Vec<u64>> {
-    if odd::answers(ticket) {
-        return None;
-    }
     let answer = designers::rust(ticket);
     let report = answer.report;
+    if odd::answers(ticket) || report.number == 16 {
+        return None;
+    }
     let mut words = ticket.words();
     match about.kind {
         Kind::KaiserBeta => words.push(bits(report.value)),

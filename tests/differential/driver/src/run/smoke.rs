@@ -1,4 +1,5 @@
-//! A few answers of the unchanged Rust files that the scope document and its requests give, to show that they run.
+//! A few answers of the unchanged Rust files, and of the models in their place, that the scope document and its requests
+//! give, to show that they run.
 
 use std::f64::consts::PI;
 
@@ -14,7 +15,10 @@ use sdrk_core::num::q14_from_f64;
 use sdrk_core::timing::{Delay, Timing};
 use sdrk_core::window::bessel_i0;
 
+use crate::kaiser::settling::{is_settled, settles};
 use crate::run::designers::rust;
+use crate::run::draw::LARGEST_BETA;
+use crate::run::report::Report;
 use crate::run::tickets::{Band, Cascade, Channels, Pulse, Section, Source, Spec, Ticket};
 
 /// Whether the Rust's channelizer tells as many halves of a sample as its delay has half samples.
@@ -87,6 +91,44 @@ fn first_orders_are_half_a_section() -> bool {
     })
 }
 
+/// Whether the series settle that the request says do, and the others not: 0 if it does and 16 if not, its terms, and
+/// whether the sum is infinite.
+fn series_settle() -> bool {
+    let series = |x| rust(&Ticket::BesselI0 { x }).report;
+    let told = |report: Report| (report.number, report.count, report.value.is_infinite());
+    let known = [
+        (0.0, (0, 1, false)),
+        (LARGEST_BETA, (0, 476, false)),
+        (-LARGEST_BETA, (0, 476, false)),
+        (LARGEST_BETA.next_up(), (16, 461, true)),
+        (750.0, (16, 269, true)),
+        (1e3, (16, 500, true)),
+        (f64::NAN, (16, 500, false)),
+        (f64::INFINITY, (16, 500, true)),
+    ];
+    known
+        .into_iter()
+        .all(|(x, answer)| told(series(x)) == answer)
+}
+
+/// Up to 713, by hundredths.
+fn all_settle_up_to_713() -> bool {
+    (0..=71_300).all(|hundredths| is_settled(f64::from(hundredths) / 100.0))
+}
+
+/// Windows that take a series that doesn't settle, and such as take none.
+fn windows_settle() -> bool {
+    let answers = [
+        settles(1e3, 0, 0),
+        settles(1e3, 0, 1),
+        settles(1e3, 1, 1),
+        settles(1e3, 1, 2),
+        settles(LARGEST_BETA, 8, 9),
+        settles(LARGEST_BETA.next_up(), 7, 8),
+    ];
+    answers == [true, true, false, false, true, false]
+}
+
 /// Prints one line; true if every answer is the one expected.
 pub fn run() -> bool {
     let one_tap = Lowpass::new(0.25, 1.0, DesignWindow::Hann, 1);
@@ -144,7 +186,9 @@ pub fn run() -> bool {
         Lowpass::new(0.25, 1.0, DesignWindow::Hann, 2).is_err(),
         (MIN_CHANNELS, MAX_CHANNELS) == (4, 256),
         prototypes_tell_half_samples(),
-        rust(&Ticket::BesselI0 { x: 0.0 }).report.count == 1,
+        series_settle(),
+        all_settle_up_to_713(),
+        windows_settle(),
         (spec(8000.0).number, spec(8000.0).expected) == (9, 293),
         spec(-8000.0).number == 1,
         hann(0.25, 2).number == 10,

@@ -1,4 +1,4 @@
-//! The Rust's answers to a spec.
+//! The Rust's answers to a spec, and the request's to one whose window doesn't settle.
 
 pub mod bench;
 pub mod faults;
@@ -6,8 +6,9 @@ pub mod inputs;
 pub mod kinds;
 
 use sdrk_blocks::access::Lowpass;
-use sdrk_blocks::design::DesignSpec;
+use sdrk_blocks::design::{DesignSpec, kaiserord};
 
+use crate::kaiser::settling::judged_taps;
 use crate::run::designers::{Answer, counted, lent, recorded};
 use crate::run::report::Report;
 use crate::run::tickets::Spec;
@@ -26,17 +27,31 @@ pub fn count(spec: &Spec) -> Report {
     counted(design_spec(spec).num_taps(spec.rate, spec.max_taps as usize))
 }
 
+/// The answer, or 16 where the window of the spec's beta doesn't settle.
+fn judged(answer: impl Into<Answer>, spec: &Spec) -> Answer {
+    match kaiserord(spec.attenuation, spec.transition, spec.rate) {
+        Ok((count, beta)) => judged_taps(answer, beta, count as u64),
+        Err(_) => answer.into(),
+    }
+}
+
 /// The Rust's record of the spec's low-pass.
-pub fn record(spec: &Spec) -> Report {
+fn rust_record(spec: &Spec) -> Report {
     let most = spec.max_taps as usize;
     recorded(Lowpass::of_spec(&design_spec(spec), spec.rate, most))
 }
 
-/// The Rust's taps in a buffer.
+/// The record of the spec's low-pass.
+pub fn record(spec: &Spec) -> Report {
+    judged(rust_record(spec), spec).report
+}
+
+/// The taps in a buffer.
 pub fn filled(spec: &Spec, bytes: u64) -> Answer {
-    lent(
+    let answer = lent(
         bytes,
         |taps| Ok(design_spec(spec).design(spec.rate, spec.max_taps as usize, taps)?),
-        || record(spec),
-    )
+        || rust_record(spec),
+    );
+    judged(answer, spec)
 }

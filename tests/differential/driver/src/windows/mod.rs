@@ -1,4 +1,4 @@
-//! The Rust's answers to a window, as samples of f32 or of Q15.
+//! The Rust's answers to a window, as samples of f32 or of Q15, and the request's to one that doesn't settle.
 
 pub mod bench;
 pub mod faults;
@@ -9,6 +9,7 @@ pub mod kinds;
 use sdrk_core::window::{Symmetry, blackman_harris, hann, kaiser};
 use sdrk_core::{Error, Q15, RealSample, Result};
 
+use crate::kaiser::settling::judged;
 use crate::run::designers::Answer;
 use crate::run::report::Report;
 use crate::run::rust_lent::{Element, elements, left};
@@ -45,8 +46,25 @@ fn filled<R: RealSample + Element>(form: Form, symmetry: Symmetry, count: u64) -
     }
 }
 
-/// The Rust's window. The code and the byte length are from the scope document.
+/// The length divisor of a window of that many samples, by the symmetry's code.
+pub fn divisor(symmetry: u64, count: u64) -> u64 {
+    count.saturating_sub(symmetry)
+}
+
+/// The Rust's window, or 16 where it is Kaiser's and doesn't settle.
 pub fn rust(window: &Window, bytes: u64) -> Answer {
+    let answer = unjudged(window, bytes);
+    match window.form {
+        Form::Hann | Form::BlackmanHarris => answer,
+        Form::Kaiser { beta } => {
+            let count = bytes / window.format.width();
+            judged(answer, beta, divisor(window.symmetry, count), count)
+        }
+    }
+}
+
+/// The Rust's window. The code and the byte length are from the scope document.
+pub fn unjudged(window: &Window, bytes: u64) -> Answer {
     let Some(symmetry) = symmetry(window.symmetry) else {
         return Report::plain(7).into();
     };
