@@ -1,6 +1,8 @@
 //! The tickets of a half-band: telling ones, and random ones with faults.
 
-use crate::run::draw::{CAP, COUNTS, Draw, LARGEST_BETA, ODD, RANDOM_TAPS, SMALLEST, around};
+use crate::run::draw::{
+    BETAS, CAP, COUNTS, Draw, LARGEST_BETA, ODD, RANDOM_TAPS, SMALLEST, around,
+};
 use crate::run::tickets::{Kind, Ticket};
 
 /// The telling half-bands: the beta and the number of taps.
@@ -37,6 +39,12 @@ fn telling_halfbands() -> Vec<(f64, u64)> {
     all.extend(around(LARGEST_BETA).map(|beta| (beta, 11)));
     all.extend(ODD.map(|beta| (beta, 7)));
     all.extend((8..20).map(|taps| (2.5, taps)));
+    for beta in BETAS {
+        all.extend([3, 7].map(|taps| (beta, taps)));
+    }
+    // What is tested before the series: the count, the beta.
+    all.extend([0, 1, 4, 5].map(|taps| (1e3, taps)));
+    all.push((-1e3, 7));
     all
 }
 
@@ -66,6 +74,7 @@ pub fn telling(kind: Kind) -> Vec<Ticket> {
                 }
             }
             all.extend(pairs);
+            all.extend(LONG.map(|taps| (1e3, taps)));
             all.into_iter()
                 .map(|(beta, taps)| Ticket::HalfbandNew { beta, taps })
                 .collect()
@@ -92,6 +101,7 @@ pub fn telling(kind: Kind) -> Vec<Ticket> {
                 bytes: 8 * 7 + more,
             }));
             all.extend(pairs.into_iter().map(ticket));
+            all.extend([13, 60].map(|bytes| Ticket::Halfband { beta: 1e3, bytes }));
             all
         }
     }

@@ -3,7 +3,7 @@
 use std::f64::consts::PI;
 
 use crate::run::draw::{
-    CAP, COUNTS, Draw, LARGEST_BETA, NARROWEST, ODD, SMALLEST, around, neighbour,
+    BETAS, CAP, COUNTS, Draw, LARGEST_BETA, NARROWEST, ODD, SMALLEST, around, neighbour,
 };
 use crate::run::tickets::{Kind, Ticket};
 
@@ -54,6 +54,8 @@ pub fn telling(kind: Kind) -> Vec<Ticket> {
             all.extend(around(LARGEST_BETA));
             all.extend([1e-8, 6e-9, 7e-9, 1e-300, 0.5, 2.0, 3.0, 50.0, 714.0, 800.0]);
             all.extend(ODD);
+            all.extend(BETAS);
+            all.extend(BETAS.map(|beta| -beta));
             all.into_iter().map(|x| Ticket::BesselI0 { x }).collect()
         }
         Kind::KaiserBeta => {

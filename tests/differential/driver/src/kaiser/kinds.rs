@@ -10,13 +10,23 @@ pub const KINDS: &[About] = &[
         name: "bessel_i0",
         number: 11,
         share: 8,
-        refusals: &[],
+        refusals: &[(16, PLAIN)],
         totals: false,
         cases: &[
             case!("one term", |_, report| report.count == 1),
-            case!("500 terms", |_, report| report.count == 500),
-            case!("an infinite sum", |_, report| report.value.is_infinite()),
-            case!("a NaN", |_, report| report.value.is_nan()),
+            case!("a sum next to the largest", |_, report| {
+                report.is_accepted() && report.value > 1.797e308
+            }),
+            case!("16 after 500 terms", |_, report| report.number == 16
+                && report.count == 500),
+            case!("16 by an infinite sum of fewer terms", |_, report| {
+                report.number == 16 && report.count < 500 && report.value.is_infinite()
+            }),
+            case!("16 by a negative number", |ticket, report| {
+                report.number == 16 && matches!(ticket, Ticket::BesselI0 { x } if *x < 0.0)
+            }),
+            case!("16 by a NaN", |_, report| report.number == 16
+                && report.value.is_nan()),
         ],
     },
     About {

@@ -1,6 +1,8 @@
 //! The tickets of the low-pass: telling ones, and random ones with faults.
 
-use crate::run::draw::{CAP, COUNTS, Draw, LARGEST_BETA, ODD, RANDOM_TAPS, SMALLEST, neighbour};
+use crate::run::draw::{
+    BETAS, CAP, COUNTS, Draw, LARGEST_BETA, ODD, RANDOM_TAPS, SMALLEST, neighbour,
+};
 use crate::run::tickets::{Band, Kind, Ticket};
 
 /// Codes that no window has.
@@ -73,6 +75,46 @@ fn telling_bands() -> Vec<(Band, u64)> {
     all
 }
 
+/// The telling low-passes about the last beta that settles, each with its number of taps.
+fn telling_betas() -> Vec<(Band, u64)> {
+    let kaiser = windowed(3, 1e3);
+    let mut all = Vec::new();
+    for beta in BETAS {
+        all.extend([1, 2, 5, 6].map(|taps| (windowed(3, beta), taps)));
+    }
+    // A window that takes no series.
+    all.extend([0, 1, 2].map(|window| (windowed(window, 1e3), 5)));
+    let tiny = |beta| Band {
+        cutoff: 1e-300,
+        ..windowed(3, beta)
+    };
+    all.extend([
+        // Two taps of 0, and the same where the series doesn't settle.
+        (tiny(700.0), 2),
+        (tiny(1e3), 2),
+        // What is tested before the series: window, rate, cutoff, count, beta.
+        (windowed(4, 1e3), 5),
+        (
+            Band {
+                rate: 0.0,
+                ..kaiser
+            },
+            5,
+        ),
+        (
+            Band {
+                cutoff: 0.5,
+                ..kaiser
+            },
+            5,
+        ),
+        (kaiser, 0),
+        (windowed(3, -1e3), 5),
+        (windowed(3, f64::INFINITY), 1),
+    ]);
+    all
+}
+
 /// The telling tickets of a kind, those that tell most first.
 pub fn telling(kind: Kind) -> Vec<Ticket> {
     match kind {
@@ -88,6 +130,8 @@ pub fn telling(kind: Kind) -> Vec<Ticket> {
                 all.push((hann(0.5, 1.0), taps));
             }
             all.extend(telling_bands());
+            all.extend(telling_betas());
+            all.extend([CAP + 1, u64::MAX].map(|taps| (windowed(3, 1e3), taps)));
             all.into_iter()
                 .map(|(band, taps)| Ticket::LowpassNew { band, taps })
                 .collect()
@@ -113,6 +157,11 @@ pub fn telling(kind: Kind) -> Vec<Ticket> {
                 bytes,
             }));
             all.extend(telling_bands().into_iter().map(ticket));
+            all.extend(telling_betas().into_iter().map(ticket));
+            all.extend([4, 13, 44].map(|bytes| Ticket::Lowpass {
+                band: windowed(3, 1e3),
+                bytes,
+            }));
             all
         }
         _ => panic!("{kind:?} has tickets of its own"),

@@ -1,5 +1,6 @@
 //! Runs lists of turns on a kept record, and turns of forged records, and compares every step with its model.
 
+use crate::kaiser::settling::{is_settled, series};
 use crate::retune::counts::{Counts, IN_BYTES, IN_TAPS, Refusal};
 use crate::retune::faults::{FAULTS, Fault, RIGHT};
 use crate::retune::inputs::{self, List, Step};
@@ -21,7 +22,7 @@ const LEAST_FORGED: u64 = 2000;
 const FAULT_COUNT: u64 = 20_000;
 
 /// What a first design can be refused with, a turn, and a turn of a forged record.
-const OF_DESIGNS: [Refusal; 7] = [
+const OF_DESIGNS: [Refusal; 8] = [
     (1, "plain"),
     (2, "range"),
     (4, "plain"),
@@ -29,8 +30,9 @@ const OF_DESIGNS: [Refusal; 7] = [
     (7, "plain"),
     IN_BYTES,
     (10, "plain"),
+    (16, "plain"),
 ];
-const OF_TURNS: [Refusal; 7] = [
+const OF_TURNS: [Refusal; 8] = [
     (1, "plain"),
     (2, "range"),
     (4, "plain"),
@@ -38,8 +40,9 @@ const OF_TURNS: [Refusal; 7] = [
     IN_BYTES,
     IN_TAPS,
     (10, "plain"),
+    (16, "plain"),
 ];
-const OF_FORGED: [Refusal; 8] = [
+const OF_FORGED: [Refusal; 9] = [
     (1, "plain"),
     (2, "range"),
     (4, "plain"),
@@ -48,6 +51,7 @@ const OF_FORGED: [Refusal; 8] = [
     IN_BYTES,
     IN_TAPS,
     (10, "plain"),
+    (16, "plain"),
 ];
 
 /// A step and what it came to.
@@ -58,8 +62,8 @@ struct Seen<'a> {
     before: Model,
     /// The record after it.
     after: Design,
-    /// The turn before it, and whether that was accepted.
-    last: Option<(Turn, bool)>,
+    /// The turn before it, and the number that it came to.
+    last: Option<(Turn, u32)>,
 }
 
 impl Seen<'_> {
@@ -74,6 +78,11 @@ impl Seen<'_> {
     fn is_cutoff(&self, holds: impl FnOnce(f64, f64) -> bool) -> bool {
         matches!(self.step.turn, Turn::Cutoff { cutoff, rate } if holds(cutoff, rate))
     }
+
+    /// Whether it is a new beta that is taken as such, and the series there doesn't settle.
+    fn is_unsettled(&self) -> bool {
+        self.is_beta(|beta| beta > 0.0 && beta.is_finite() && !is_settled(beta))
+    }
 }
 
 /// A case that the lists must meet and that a refusal's number doesn't tell apart.
@@ -82,7 +91,7 @@ struct Case {
     met: fn(&Seen) -> bool,
 }
 
-const CASES: [Case; 9] = [
+const CASES: [Case; 15] = [
     Case {
         what: "new cutoffs taken",
         met: |seen| seen.accepts() && seen.is_cutoff(|_, _| true),
@@ -93,14 +102,14 @@ const CASES: [Case; 9] = [
     },
     Case {
         what: "turns taken right after a refused one",
-        met: |seen| seen.accepts() && matches!(seen.last, Some((_, false))),
+        met: |seen| seen.accepts() && matches!(seen.last, Some((_, 1..))),
     },
     Case {
         what: "new cutoffs taken right after a new beta",
         met: |seen| {
             seen.accepts()
                 && seen.is_cutoff(|_, _| true)
-                && matches!(seen.last, Some((Turn::Beta { .. }, true)))
+                && matches!(seen.last, Some((Turn::Beta { .. }, 0)))
         },
     },
     Case {
@@ -117,6 +126,30 @@ const CASES: [Case; 9] = [
             seen.report.number == 2
                 && seen.is_cutoff(|cutoff, rate| cutoff > 0.0 && cutoff / rate == 0.0)
         },
+    },
+    Case {
+        what: "betas above 713 taken",
+        met: |seen| seen.accepts() && seen.before.taps > 1 && seen.is_beta(|beta| beta > 713.0),
+    },
+    Case {
+        what: "refusals 16 after fewer than 500 terms",
+        met: |seen| seen.report.number == 16 && seen.is_beta(|beta| series(beta).terms < 500),
+    },
+    Case {
+        what: "refusals 16 before a sum of 0",
+        met: |seen| seen.report.number == 16 && seen.before.taps == 2,
+    },
+    Case {
+        what: "turns taken right after a refusal 16",
+        met: |seen| seen.accepts() && matches!(seen.last, Some((_, 16))),
+    },
+    Case {
+        what: "refusals 8 of a beta that doesn't settle",
+        met: |seen| seen.report.number == 8 && seen.is_unsettled(),
+    },
+    Case {
+        what: "refusals 7 of a beta that doesn't settle",
+        met: |seen| seen.report.number == 7 && seen.is_unsettled(),
     },
     Case {
         what: "refusals 7 of a beta that is no good",
@@ -220,7 +253,7 @@ impl Tally {
                 return;
             }
             design = tuned.design;
-            last = Some((step.turn, report.is_accepted()));
+            last = Some((step.turn, report.number));
         }
     }
 

@@ -3,7 +3,7 @@
 use crate::lowpass;
 use crate::lowpass::inputs::{hann, windowed};
 use crate::retune::{KAISER, Turn};
-use crate::run::draw::{Draw, SMALLEST};
+use crate::run::draw::{BETAS, Draw, LARGEST_BETA, SMALLEST};
 use crate::run::random::Random;
 use crate::run::tickets::Band;
 
@@ -105,9 +105,37 @@ pub fn telling() -> Vec<List> {
         (cutoff(1.0, -1.0), Some(24)),
         (cutoff(1.0, -1.0), Some(7)),
     ];
+    // About the last beta that settles, and beyond it.
+    let mut edge: Vec<(Turn, Option<u64>)> = Vec::new();
+    for new in BETAS {
+        edge.extend([(beta(new), None), (cutoff(900.0, 8000.0), None)]);
+    }
+    edge.extend([
+        (beta(1e3), Some(13)),
+        (beta(1e3), Some(8 * 8)),
+        (beta(-1e3), None),
+        (beta(LARGEST_BETA), None),
+        (beta(750.0), None),
+        (beta(6.0), None),
+    ]);
+    // Two taps that are 0, by a new beta and by a new cutoff, and where the series doesn't settle.
+    let nothing = [
+        (cutoff(1e-300, 1.0), None),
+        (beta(700.0), None),
+        (beta(1e3), None),
+        (cutoff(0.25, 1.0), None),
+        (beta(700.0), None),
+        (cutoff(1e-300, 1.0), None),
+        (beta(1e3), None),
+        (beta(0.0), None),
+    ];
     let mut all = vec![
         list(kaiser, 31, &long),
         list(windowed(KAISER, 8.0), 1, &one),
+        list(kaiser, 9, &edge),
+        list(kaiser, 1, &edge),
+        list(windowed(0, 1e3), 9, &edge),
+        list(windowed(KAISER, 0.0), 2, &nothing),
     ];
     all.extend((0..3).map(|window| list(windowed(window, f64::NAN), 5, &other)));
     // Longer than what the port keeps of the raw taps between summing and writing them.
@@ -127,14 +155,20 @@ pub fn telling() -> Vec<List> {
         (hann(0.25, 1.0), 0),
         (windowed(KAISER, -1.0), 5),
         (windowed(KAISER, 1000.0), 5),
+        (windowed(KAISER, 750.0), 5),
+        (windowed(KAISER, 1000.0), 2),
+        (windowed(KAISER, 1000.0), 1),
+        (windowed(KAISER, -1000.0), 5),
         (hann(0.25, 1.0), 2),
     ] {
         all.push(list(band, taps, &[]));
     }
-    all.push(List {
-        bytes: 13,
-        ..list(windowed(KAISER, 8.0), 0, &[])
-    });
+    for beta in [8.0, 1000.0] {
+        all.push(List {
+            bytes: 13,
+            ..list(windowed(KAISER, beta), 0, &[])
+        });
+    }
     all
 }
 

@@ -6,8 +6,23 @@ use crate::run::random::Random;
 pub const CAP: u64 = 1 << 24;
 /// The smallest f64 above 0.
 pub const SMALLEST: f64 = f64::from_bits(1);
-/// The largest beta whose series has a finite sum.
+/// The largest beta whose series settles.
 pub const LARGEST_BETA: f64 = 713.986_908_543_968_2;
+/// Betas about it and beyond. From 761 on these take 500 terms, those below fewer.
+pub const BETAS: [f64; 12] = [
+    713.0,
+    LARGEST_BETA,
+    LARGEST_BETA.next_up(),
+    714.0,
+    750.0,
+    753.0,
+    754.0,
+    761.0,
+    1e3,
+    1e4,
+    1e100,
+    1e308,
+];
 /// The smallest transition that 60 dB at rate 1 can have: 16777217 taps.
 pub const NARROWEST: f64 = f64::from_bits(0x3E8D_00CC_45E9_3F3A);
 /// The most taps that a random ticket may have designed.
@@ -138,12 +153,12 @@ impl Draw<'_> {
         }
     }
 
-    /// The beta of a Kaiser window; at times one whose series is infinite.
+    /// The beta of a Kaiser window; at times one about the largest whose series settles.
     pub fn beta(&mut self) -> f64 {
         let good = match self.random.below(64) {
             0..=5 => self.one_of(&[0.0, -0.0, SMALLEST, 1e-300, 5.65326]),
-            6 => self.one_of(&[713.9, LARGEST_BETA, 714.0, 750.0, 1000.0, 1e308]),
-            7 => neighbour(LARGEST_BETA, self.random.between(-2, 2)),
+            6 => self.one_of(&BETAS),
+            7 => self.random.uniform(713.0, LARGEST_BETA),
             _ => self.random.uniform(0.0, 15.0),
         };
         self.number(good, &[0.0, LARGEST_BETA])

@@ -37,6 +37,11 @@ fn designs() -> Vec<(Kind, Ticket)> {
         window: 1,
         ..hann(1e-6, 1.0)
     };
+    // The elements are tried one by one.
+    let steep = Band {
+        beta: 713.9,
+        ..kaiser
+    };
     // Each of these taps is 2^-16, less a little at the ends, and is converted to 1 or to 0.
     let flat = Band {
         cutoff: 1e-12,
@@ -106,6 +111,13 @@ fn designs() -> Vec<(Kind, Ticket)> {
             Ticket::Lowpass {
                 band: flat,
                 bytes: 8 * 65536,
+            },
+        ),
+        (
+            Kind::Lowpass,
+            Ticket::Lowpass {
+                band: steep,
+                bytes: 8 * 2500,
             },
         ),
         (

@@ -1,5 +1,7 @@
 //! The tickets of a spec: telling ones, and random ones with faults.
 
+use std::f64::consts::PI;
+
 use sdrk_blocks::design::kaiserord;
 
 use crate::kaiser::inputs::ATTENUATIONS;
@@ -41,6 +43,53 @@ pub const LONGEST: Spec = Spec {
     rate: 1.0,
     max_taps: LARGEST_COUNT,
 };
+
+/// A spec whose series doesn't settle; with so wide a transition it needs 459 taps.
+const STEEP: Spec = Spec {
+    cutoff: 0.001,
+    transition: 0.99,
+    attenuation: 6500.0,
+    rate: 1.0,
+    max_taps: u64::MAX,
+};
+
+/// The largest attenuation whose series settles.
+const LARGEST_ATTENUATION: f64 = 6_487.710_059_382_651;
+
+/// The telling specs about that attenuation, and what is tested before the series.
+fn telling_steep() -> Vec<Spec> {
+    let next = LARGEST_ATTENUATION.next_up();
+    // The first of them has a beta just above 713.
+    let mut all: Vec<Spec> = [6478.76, LARGEST_ATTENUATION, next, -7000.0]
+        .into_iter()
+        .map(|attenuation| Spec {
+            attenuation,
+            ..STEEP
+        })
+        .collect();
+    // The low-pass's count.
+    let width = (STEEP.attenuation - 7.95) / 2.285 / (2.0 * PI * (CAP as f64 - 1.0));
+    let longest = (-64..64)
+        .map(|steps| Spec {
+            transition: neighbour(width, steps),
+            ..STEEP
+        })
+        .find(|spec| needed(spec) == LARGEST_COUNT);
+    all.extend([
+        longest.expect("a transition of 16777217 taps"),
+        // The cap, and the low-pass's cutoff.
+        Spec {
+            max_taps: needed(&STEEP) - 1,
+            ..STEEP
+        },
+        Spec {
+            attenuation: STEEP.attenuation,
+            max_taps: u64::MAX,
+            ..UNDERFLOW
+        },
+    ]);
+    all
+}
 
 /// The telling specs.
 fn telling_specs() -> Vec<Spec> {
@@ -95,14 +144,7 @@ fn telling_specs() -> Vec<Spec> {
             rate: 1.7e308,
             ..short
         },
-        // The series at the beta of 6500 dB is infinite.
-        Spec {
-            cutoff: 0.001,
-            transition: 0.99,
-            attenuation: 6500.0,
-            rate: 1.0,
-            max_taps: u64::MAX,
-        },
+        STEEP,
         // One fault after another: rate, transition, cutoff, attenuation, cap.
         Spec {
             cutoff: 0.0,
@@ -163,6 +205,7 @@ fn telling_specs() -> Vec<Spec> {
         attenuation,
         ..short
     }));
+    all.extend(telling_steep());
     all
 }
 
@@ -218,6 +261,8 @@ pub fn telling(kind: Kind) -> Vec<Ticket> {
                 }
             }
             all.extend((1..8).map(|more| design(SHORT, 8 * 12 + more)));
+            // The length comes before the series.
+            all.extend([0, 8 * 12, 13].map(|bytes| design(STEEP, bytes)));
             all
         }
         _ => panic!("{kind:?} has tickets of its own"),
@@ -234,9 +279,9 @@ impl Draw<'_> {
             _ => good * self.random.uniform(0.02, 0.8),
         };
         match self.random.below(2000) {
-            // Betas about the largest whose series is finite.
+            // Betas about the largest whose series settles.
             0 => {
-                attenuation = self.random.uniform(6400.0, 6600.0);
+                attenuation = self.random.uniform(6470.0, 6500.0);
                 transition = good * self.random.uniform(0.7, 0.95);
             }
             // Widths too large, then too small.

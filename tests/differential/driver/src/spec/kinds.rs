@@ -1,7 +1,11 @@
 //! What the kinds of specs must meet.
 
+use sdrk_blocks::design::kaiser_beta;
+
+use crate::kaiser::settling::is_settled;
 use crate::run::cases::{CAP, Case, LENGTH, PLAIN, RANGE, case};
 use crate::run::kinds::About;
+use crate::run::report::Report;
 use crate::run::tickets::{Kind, LARGEST_COUNT, Spec, Ticket};
 
 /// Whether the ticket is a spec's for which that holds.
@@ -27,12 +31,43 @@ const OF_THE_RATE: Case = case!("3 with the whole rate", |ticket, report| {
         && of_spec(ticket, |spec| report.largest == spec.rate)
 });
 
-const QUOTIENT_LOST: Case = case!("2 by a quotient that underflows", |ticket, report| {
+/// Whether it is the low-pass that refuses the cutoff, and not the spec.
+fn is_lost(ticket: &Ticket, report: &Report) -> bool {
     report.number == 2
         && of_spec(ticket, |spec| {
             let largest = spec.rate / 2.0 - spec.transition / 2.0;
             spec.cutoff > 0.0 && spec.cutoff <= largest
         })
+}
+
+const QUOTIENT_LOST: Case = case!("2 by a quotient that underflows", |ticket, report| {
+    is_lost(ticket, report)
+});
+
+/// Whether the spec's beta is one for which that holds.
+fn of_beta(ticket: &Ticket, holds: impl FnOnce(f64) -> bool) -> bool {
+    of_spec(ticket, |spec| holds(kaiser_beta(spec.attenuation.abs())))
+}
+
+fn unsettled(ticket: &Ticket) -> bool {
+    of_beta(ticket, |beta| beta.is_finite() && !is_settled(beta))
+}
+
+const ABOVE_713: Case = case!("taps of a beta above 713", |ticket, report| {
+    report.is_accepted() && of_beta(ticket, |beta| beta > 713.0)
+});
+
+const CAP_FIRST: Case = case!("9 before a series that doesn't settle", |ticket, report| {
+    report.number == 9 && unsettled(ticket)
+});
+
+const QUOTIENT_FIRST: Case = case!(
+    "2 by a quotient before a series that doesn't settle",
+    |ticket, report| { is_lost(ticket, report) && unsettled(ticket) }
+);
+
+const COUNT_FIRST: Case = case!("6 before a series that doesn't settle", |ticket, report| {
+    report.number == 6 && unsettled(ticket)
 });
 
 pub const KINDS: &[About] = &[
@@ -56,6 +91,9 @@ pub const KINDS: &[About] = &[
             OF_HALF_THE_RATE,
             OF_THE_RATE,
             case!("16777217 taps", |_, report| report.count == LARGEST_COUNT),
+            case!("a series that isn't taken", |ticket, report| report
+                .is_accepted()
+                && unsettled(ticket)),
         ],
     },
     About {
@@ -71,7 +109,7 @@ pub const KINDS: &[About] = &[
             (4, PLAIN),
             (6, PLAIN),
             (9, CAP),
-            (10, PLAIN),
+            (16, PLAIN),
         ],
         totals: false,
         cases: &[
@@ -80,6 +118,10 @@ pub const KINDS: &[About] = &[
             OF_HALF_THE_RATE,
             OF_THE_RATE,
             QUOTIENT_LOST,
+            ABOVE_713,
+            CAP_FIRST,
+            QUOTIENT_FIRST,
+            COUNT_FIRST,
         ],
     },
     About {
@@ -96,7 +138,7 @@ pub const KINDS: &[About] = &[
             (6, PLAIN),
             (8, LENGTH),
             (9, CAP),
-            (10, PLAIN),
+            (16, PLAIN),
         ],
         totals: true,
         cases: &[
@@ -105,6 +147,12 @@ pub const KINDS: &[About] = &[
             OF_HALF_THE_RATE,
             OF_THE_RATE,
             QUOTIENT_LOST,
+            ABOVE_713,
+            CAP_FIRST,
+            QUOTIENT_FIRST,
+            case!("8 before a series that doesn't settle", |ticket, report| {
+                report.number == 8 && ticket.bytes() % 8 == 0 && unsettled(ticket)
+            }),
             case!("8 in bytes", |ticket, report| {
                 report.number == 8 && report.given == ticket.bytes() && ticket.bytes() % 8 != 0
             }),

@@ -1,6 +1,6 @@
 //! The tickets of the windows: telling ones, and random ones with faults.
 
-use crate::run::draw::{Draw, LARGEST_BETA, ODD, SMALLEST, neighbour};
+use crate::run::draw::{BETAS, Draw, LARGEST_BETA, ODD, SMALLEST, neighbour};
 use crate::run::tickets::{Form, Format, Kind, Ticket, Window};
 
 /// Codes that no symmetry has.
@@ -50,7 +50,7 @@ pub fn telling(kind: Kind) -> Vec<Ticket> {
         ticket(8.0, u64::MAX, 0),
         ticket(8.0, 1, 1),
         ticket(8.0, 1, 4 * width + width / 2),
-        // The series is infinite, at all samples or at the middle alone.
+        // The series doesn't settle, at beta or at some samples too; one symmetric sample takes none.
         of(1000.0, 1, 5),
         of(750.0, 0, 8),
         of(714.0, 1, 9),
@@ -84,11 +84,29 @@ pub fn telling(kind: Kind) -> Vec<Ticket> {
         all.push(of(5.65326, 1, samples));
     }
     all.extend((0..12).map(|bytes| ticket(2.0, 1, bytes)));
+    if window(kind, 0.0, 0).beta().is_some() {
+        for beta in BETAS {
+            for samples in [0, 1, 2, 3, 8] {
+                all.push(of(beta, 0, samples));
+                all.push(of(beta, 1, samples));
+            }
+        }
+        // What is tested before the series: the symmetry, the length, the beta.
+        all.extend([
+            of(1e3, 2, 4),
+            ticket(1e3, 1, 4 * width + 1),
+            ticket(1e3, 0, 1),
+            of(-1e3, 0, 4),
+            of(-1e3, 1, 1),
+            of(-1e3, 1, 0),
+        ]);
+    }
     all
 }
 
 impl Draw<'_> {
-    /// The beta of a window; more often than that of a design one with tiny or infinite samples.
+    /// The beta of a window; more often than that of a design one with tiny samples, or one that doesn't
+    /// settle.
     fn window_beta(&mut self) -> f64 {
         match self.random.below(16) {
             0 => {

@@ -1,5 +1,6 @@
 //! What the kinds of windows must meet.
 
+use crate::kaiser::settling::{is_settled, series};
 use crate::run::cases::{Case, LENGTH, PLAIN, case, written};
 use crate::run::designers::Answer;
 use crate::run::kinds::About;
@@ -64,28 +65,65 @@ const BETA_NEGATIVE_ZERO: Case = case!("a beta of -0", |ticket, report| {
         })
 });
 
-/// Whether the samples of a beta above 714 are as said.
-fn infinite(ticket: &Ticket, answer: &Answer, holds: fn(&[f64]) -> bool) -> bool {
-    of_window(ticket, |window| {
-        window.beta().is_some_and(|beta| beta > 714.0)
-    }) && answer.report.count > 1
-        && holds(&samples(answer))
+/// Whether the beta is one for which that holds.
+fn of_beta(ticket: &Ticket, holds: impl FnOnce(f64) -> bool) -> bool {
+    of_window(ticket, |window| window.beta().is_some_and(holds))
 }
 
-const SUM_INFINITE: Case = written!("a beta above 714", |ticket, answer| {
-    infinite(ticket, answer, |_| true)
+/// Whether the beta is one that is taken, and the series there doesn't settle.
+fn unsettled(ticket: &Ticket) -> bool {
+    of_beta(ticket, |beta| {
+        beta > 0.0 && beta.is_finite() && !is_settled(beta)
+    })
+}
+
+const FEWER_TERMS: Case = case!(
+    "16 by a series of fewer than 500 terms",
+    |ticket, report| { report.number == 16 && of_beta(ticket, |beta| series(beta).terms < 500) }
+);
+
+const ALL_TERMS: Case = case!("16 by a series of 500 terms", |ticket, report| {
+    report.number == 16 && of_beta(ticket, |beta| series(beta).terms == 500)
 });
 
-const SAMPLES_NAN: Case = written!("NaN samples and zeros", |ticket, answer| {
-    infinite(ticket, answer, |samples| {
-        samples.iter().any(|sample| sample.is_nan()) && samples.contains(&0.0)
-    })
+const ONE_UNSETTLED: Case = case!("16 at one periodic sample", |ticket, report| {
+    report.number == 16 && of_window(ticket, |window| ticket.bytes() == window.format.width())
 });
 
-const SAMPLES_ZERO: Case = written!("no sample but 0 of a beta above 714", |ticket, answer| {
-    infinite(ticket, answer, |samples| {
-        samples.iter().all(|&sample| sample == 0.0)
-    })
+const ONE_EXEMPT: Case = case!(
+    "one symmetric sample of a beta that doesn't settle",
+    |ticket, report| report.count == 1 && unsettled(ticket)
+);
+
+const EMPTY_PERIODIC: Case = case!(
+    "an empty periodic buffer for a beta that doesn't settle",
+    |ticket, report| report.is_accepted() && unsettled(ticket) && is_empty(ticket, 0)
+);
+
+const EMPTY_SYMMETRIC: Case = case!(
+    "an empty symmetric buffer for a beta that doesn't settle",
+    |ticket, report| report.is_accepted() && unsettled(ticket) && is_empty(ticket, 1)
+);
+
+/// Whether the buffer is empty and the window of that symmetry.
+fn is_empty(ticket: &Ticket, symmetry: u64) -> bool {
+    ticket.bytes() == 0 && of_window(ticket, |window| window.symmetry == symmetry)
+}
+
+const ABOVE_713: Case = case!("samples of a beta above 713", |ticket, report| {
+    report.count > 1 && of_beta(ticket, |beta| beta > 713.0)
+});
+
+const SYMMETRY_BEFORE: Case = case!("7 before a series that doesn't settle", |ticket, report| {
+    report.number == 7 && unsettled(ticket)
+});
+
+const LENGTH_BEFORE: Case = case!("8 before a series that doesn't settle", |ticket, report| {
+    report.number == 8 && unsettled(ticket)
+});
+
+const BETA_BEFORE: Case = case!("4 before a series that doesn't settle", |ticket, report| {
+    report.number == 4 && of_beta(ticket, |beta| !is_settled(beta))
 });
 
 pub const KINDS: &[About] = &[
@@ -147,7 +185,7 @@ pub const KINDS: &[About] = &[
         name: "kaiser_f32",
         number: 46,
         share: 5,
-        refusals: &[(4, PLAIN), (7, PLAIN), (8, LENGTH)],
+        refusals: &[(4, PLAIN), (7, PLAIN), (8, LENGTH), (16, PLAIN)],
         totals: false,
         cases: &[
             EMPTY,
@@ -158,9 +196,16 @@ pub const KINDS: &[About] = &[
             BETA_LAST,
             BETA_EMPTY,
             BETA_NEGATIVE_ZERO,
-            SUM_INFINITE,
-            SAMPLES_NAN,
-            SAMPLES_ZERO,
+            FEWER_TERMS,
+            ALL_TERMS,
+            ONE_UNSETTLED,
+            ONE_EXEMPT,
+            EMPTY_PERIODIC,
+            EMPTY_SYMMETRIC,
+            ABOVE_713,
+            SYMMETRY_BEFORE,
+            LENGTH_BEFORE,
+            BETA_BEFORE,
             written!("a subnormal sample", |_, answer| {
                 answer.singles.iter().any(|sample| sample.is_subnormal())
             }),
@@ -171,7 +216,7 @@ pub const KINDS: &[About] = &[
         name: "kaiser_q15",
         number: 47,
         share: 5,
-        refusals: &[(4, PLAIN), (7, PLAIN), (8, LENGTH)],
+        refusals: &[(4, PLAIN), (7, PLAIN), (8, LENGTH), (16, PLAIN)],
         totals: false,
         cases: &[
             EMPTY,
@@ -182,8 +227,16 @@ pub const KINDS: &[About] = &[
             BETA_LAST,
             BETA_EMPTY,
             BETA_NEGATIVE_ZERO,
-            SUM_INFINITE,
-            SAMPLES_ZERO,
+            FEWER_TERMS,
+            ALL_TERMS,
+            ONE_UNSETTLED,
+            ONE_EXEMPT,
+            EMPTY_PERIODIC,
+            EMPTY_SYMMETRIC,
+            ABOVE_713,
+            SYMMETRY_BEFORE,
+            LENGTH_BEFORE,
+            BETA_BEFORE,
         ],
     },
 ];
