@@ -3,6 +3,7 @@
 use sdrk_blocks::access::Lowpass;
 use sdrk_blocks::design::DesignWindow;
 
+use crate::kaiser::faults::{counted_alone, series_refused};
 use crate::run::designers;
 use crate::run::faults::{
     Fault, bytes_refused, changed, faults, of, reshaped, right, spoilt, swapped,
@@ -20,6 +21,12 @@ fn count_refused(taps: u64) -> Option<Report> {
 
 fn beta_refused(beta: f64) -> Option<Report> {
     (!(0.0..f64::INFINITY).contains(&beta)).then(|| Report::plain(4))
+}
+
+/// Every beta above 713 refused, though some of them settle.
+fn above_refused(ticket: &Ticket, buffer: &mut [u8]) -> Report {
+    let above = asked(ticket).0 > 713.0;
+    swapped(ticket, buffer, 0, above.then(|| Report::plain(16)))
 }
 
 /// The low-pass that a half-band is made of.
@@ -99,8 +106,21 @@ pub const FAULTS: &[Fault] = faults![
             report
         }
     };
-    HalfbandNew, "an infinite series refused with 4", |ticket, buffer| {
-        changed(ticket, buffer, (10, 0), |_| Report::plain(4))
+    HalfbandNew, "4 in place of 16", |ticket, buffer| {
+        changed(ticket, buffer, (16, 0), |_| Report::plain(4))
+    };
+    HalfbandNew, "10 before 16", |ticket, buffer| {
+        changed(ticket, buffer, (16, 0), |_| Report::plain(10))
+    };
+    HalfbandNew, "settled by the count alone", |ticket, buffer| {
+        counted_alone(ticket, buffer, asked(ticket).0)
+    };
+    HalfbandNew, "settled up to 713 alone", above_refused;
+    HalfbandNew, "the series tested before the count", |ticket, buffer| {
+        swapped(ticket, buffer, 6, series_refused(asked(ticket).0))
+    };
+    HalfbandNew, "the series tested before the beta", |ticket, buffer| {
+        swapped(ticket, buffer, 4, series_refused(asked(ticket).0))
     };
     HalfbandNew, "a beta of -0.0 refused", |ticket, buffer| {
         let refused = asked(ticket).0.to_bits() == 1 << 63;
@@ -189,8 +209,21 @@ pub const FAULTS: &[Fault] = faults![
     Halfband, "10 for every ticket", |_ticket, _buffer| {
         Report::plain(10)
     };
-    Halfband, "element 0 written before a sum is refused", |ticket, buffer| {
-        spoilt(ticket, buffer, 10)
+    Halfband, "10 before 16", |ticket, buffer| {
+        changed(ticket, buffer, (16, 0), |_| Report::plain(10))
+    };
+    Halfband, "settled by the count alone", |ticket, buffer| {
+        counted_alone(ticket, buffer, asked(ticket).0)
+    };
+    Halfband, "settled up to 713 alone", above_refused;
+    Halfband, "the series tested before the byte length", |ticket, buffer| {
+        swapped(ticket, buffer, 8, series_refused(asked(ticket).0))
+    };
+    Halfband, "the series tested before the beta", |ticket, buffer| {
+        swapped(ticket, buffer, 4, series_refused(asked(ticket).0))
+    };
+    Halfband, "element 0 written before a series is refused", |ticket, buffer| {
+        spoilt(ticket, buffer, 16)
     };
     Halfband, "a buffer overwritten before a beta is refused", |ticket, buffer| {
         let report = right(ticket, buffer);

@@ -2,14 +2,26 @@
 
 use sdrk_blocks::design::kaiser_beta;
 
-use crate::kaiser::settling::series;
+use crate::kaiser::settling::{is_settled, series};
 use crate::lowpass::faults::rate_refused;
+use crate::run::draw::LARGEST_BETA;
 use crate::run::faults::{Fault, bad, changed, faults, of, right, swapped};
 use crate::run::report::Report;
 use crate::run::tickets::{Kind, LARGEST_COUNT, Ticket};
 
 pub fn width_refused(transition: f64, rate: f64) -> Option<Report> {
     bad(2.0 * transition / rate).then(|| Report::plain(3))
+}
+
+/// 16 for a beta that doesn't settle, as if it were tested first.
+pub fn series_refused(beta: f64) -> Option<Report> {
+    (!is_settled(beta)).then(|| Report::plain(16))
+}
+
+/// The right answer to a design of that beta, but settled by the count of terms alone.
+pub fn counted_alone(ticket: &Ticket, buffer: &mut [u8], beta: f64) -> Report {
+    let settled = series(beta).terms < 500;
+    swapped(ticket, buffer, 16, settled.then(|| Report::plain(10)))
 }
 
 /// Numbers of a `kaiserord` or a half-band length: attenuation, transition, rate.
@@ -83,6 +95,43 @@ pub const FAULTS: &[Fault] = faults![
     BesselI0, "negative numbers answered with NaN", |ticket, buffer| {
         let report = right(ticket, buffer);
         Report { value: if argument(ticket) < 0.0 { f64::NAN } else { report.value }, ..report }
+    };
+    BesselI0, "every series settled", |ticket, buffer| {
+        Report { number: 0, ..right(ticket, buffer) }
+    };
+    BesselI0, "settled by the count alone", |ticket, buffer| {
+        let report = right(ticket, buffer);
+        Report { number: if report.count < 500 { 0 } else { 16 }, ..report }
+    };
+    BesselI0, "a NaN settled", |ticket, buffer| {
+        let report = right(ticket, buffer);
+        Report { number: if report.value.is_nan() { 0 } else { report.number }, ..report }
+    };
+    BesselI0, "the last that settles not settled", |ticket, buffer| {
+        let report = right(ticket, buffer);
+        let last = argument(ticket).abs() == LARGEST_BETA;
+        Report { number: if last { 16 } else { report.number }, ..report }
+    };
+    BesselI0, "settled up to 714", |ticket, buffer| {
+        let report = right(ticket, buffer);
+        let taken = argument(ticket).abs() <= 714.0;
+        Report { number: if taken { 0 } else { report.number }, ..report }
+    };
+    BesselI0, "no negative number settled", |ticket, buffer| {
+        let report = right(ticket, buffer);
+        Report { number: if argument(ticket) < 0.0 { 16 } else { report.number }, ..report }
+    };
+    BesselI0, "16 without the count", |ticket, buffer| {
+        changed(ticket, buffer, (16, 0), |report| Report { count: 0, ..report })
+    };
+    BesselI0, "16 without the value", |ticket, buffer| {
+        changed(ticket, buffer, (16, 0), |report| Report { value: 0.0, ..report })
+    };
+    BesselI0, "16 always with 500 terms", |ticket, buffer| {
+        changed(ticket, buffer, (16, 0), |report| Report { count: 500, ..report })
+    };
+    BesselI0, "4 in place of 16", |ticket, buffer| {
+        changed(ticket, buffer, (16, 0), |report| Report { number: 4, ..report })
     };
     KaiserBeta, "50 taken as above 50", |ticket, buffer| {
         let a = argument(ticket);

@@ -2,8 +2,12 @@
 
 use std::f64::consts::PI;
 
+use crate::kaiser;
+use crate::kaiser::faults::counted_alone;
+use crate::kaiser::settling::{Series, argument, is_settled, series};
 use crate::run::designers::{self, Answer};
-use crate::run::faults::{Fault, bad, changed, faults, of, right, swapped, write};
+use crate::run::draw::LARGEST_BETA;
+use crate::run::faults::{Fault, bad, changed, faults, of, right, spoilt, swapped, write};
 use crate::run::report::Report;
 use crate::run::tickets::{Band, Kind, LARGEST_COUNT, Ticket};
 
@@ -31,12 +35,40 @@ fn beta_refused(band: Band) -> Option<Report> {
     (band.window == 3 && !taken).then(|| Report::plain(4))
 }
 
+fn series_refused(band: Band) -> Option<Report> {
+    kaiser::faults::series_refused(band.beta).filter(|_| band.window == 3)
+}
+
 /// The count of taps that a low-pass ticket asks for.
 fn taps(ticket: &Ticket) -> u64 {
     match *ticket {
         Ticket::LowpassNew { taps, .. } => taps,
         _ => ticket.bytes() / 8,
     }
+}
+
+/// 16 for one tap too.
+fn one_tap_refused(ticket: &Ticket, buffer: &mut [u8]) -> Report {
+    let other = series_refused(band(ticket)).filter(|_| taps(ticket) == 1);
+    swapped(ticket, buffer, 0, other)
+}
+
+/// Every beta above 713 refused, though some of them settle.
+fn above_refused(ticket: &Ticket, buffer: &mut [u8]) -> Report {
+    let above = band(ticket).window == 3 && band(ticket).beta > 713.0 && taps(ticket) > 1;
+    swapped(ticket, buffer, 0, above.then(|| Report::plain(16)))
+}
+
+/// The elements' series tried, and that at beta not.
+fn elements_alone(ticket: &Ticket, buffer: &mut [u8]) -> Report {
+    let (beta, taps) = (band(ticket).beta, taps(ticket));
+    changed(ticket, buffer, (16, 0), |report| {
+        if (0..taps).all(|i| is_settled(argument(beta, taps - 1, i))) {
+            Report::plain(10)
+        } else {
+            report
+        }
+    })
 }
 
 /// The taps of a Hamming low-pass before they are divided by their sum.
@@ -144,10 +176,49 @@ pub const FAULTS: &[Fault] = faults![
             if hann { Report::accepted(taps(ticket), 0.0) } else { report }
         })
     };
-    LowpassNew, "an infinite series refused with 4", |ticket, buffer| {
-        changed(ticket, buffer, (10, 0), |report| {
-            if band(ticket).window == 3 { Report::plain(4) } else { report }
-        })
+    LowpassNew, "10 before 16", |ticket, buffer| {
+        changed(ticket, buffer, (16, 0), |_| Report::plain(10))
+    };
+    LowpassNew, "4 in place of 16", |ticket, buffer| {
+        changed(ticket, buffer, (16, 0), |_| Report::plain(4))
+    };
+    LowpassNew, "settled by the count alone", |ticket, buffer| {
+        counted_alone(ticket, buffer, band(ticket).beta)
+    };
+    LowpassNew, "settled by the elements alone", elements_alone;
+    LowpassNew, "settled up to 714", |ticket, buffer| {
+        let taken = band(ticket).beta <= 714.0;
+        swapped(ticket, buffer, 16, taken.then(|| Report::plain(10)))
+    };
+    LowpassNew, "settled up to 713 alone", above_refused;
+    LowpassNew, "one tap refused with 16", one_tap_refused;
+    LowpassNew, "two taps taken as one", |ticket, buffer| {
+        let two = taps(ticket) == 2;
+        swapped(ticket, buffer, 16, two.then(|| Report::plain(10)))
+    };
+    LowpassNew, "the series tested before the beta", |ticket, buffer| {
+        swapped(ticket, buffer, 4, series_refused(band(ticket)))
+    };
+    LowpassNew, "the series tested before the count", |ticket, buffer| {
+        swapped(ticket, buffer, 6, series_refused(band(ticket)))
+    };
+    LowpassNew, "the series tested before the cutoff", |ticket, buffer| {
+        swapped(ticket, buffer, 2, series_refused(band(ticket)))
+    };
+    LowpassNew, "the series tested before the rate", |ticket, buffer| {
+        swapped(ticket, buffer, 1, series_refused(band(ticket)))
+    };
+    LowpassNew, "a beta that isn't used judged by its series", |ticket, buffer| {
+        let other = series_refused(Band { window: 3, ..band(ticket) });
+        swapped(ticket, buffer, 0, other.filter(|_| taps(ticket) > 1))
+    };
+    LowpassNew, "16 with what the series reached", |ticket, buffer| {
+        let Series { sum, terms, .. } = series(band(ticket).beta);
+        changed(ticket, buffer, (16, 0), |report| Report { count: terms, value: sum, ..report })
+    };
+    LowpassNew, "16 with its values", |ticket, buffer| {
+        let beta = band(ticket).beta;
+        changed(ticket, buffer, (16, 0), |_| Report::range(16, 0.0, LARGEST_BETA, beta))
     };
     LowpassNew, "the sum from the other end", |ticket, buffer| {
         let report = right(ticket, buffer);
@@ -171,6 +242,9 @@ pub const FAULTS: &[Fault] = faults![
             write(&[1.0], buffer);
         }
         report
+    };
+    Lowpass, "element 0 written before a series is refused", |ticket, buffer| {
+        spoilt(ticket, buffer, 16)
     };
     Lowpass, "the last byte written before a length is refused", |ticket, buffer| {
         let report = right(ticket, buffer);
@@ -271,6 +345,34 @@ pub const FAULTS: &[Fault] = faults![
         let band = band(ticket);
         let other = beta_refused(Band { window: 3, ..band });
         swapped(ticket, buffer, 0, other)
+    };
+    Lowpass, "10 before 16", |ticket, buffer| {
+        changed(ticket, buffer, (16, 0), |_| Report::plain(10))
+    };
+    Lowpass, "NaN taps in place of 16", |ticket, buffer| {
+        let count = taps(ticket);
+        let report = right(ticket, buffer);
+        if report.number == 16 {
+            write(&vec![f64::NAN; count as usize], buffer);
+            Report::accepted(count, f64::NAN)
+        } else {
+            report
+        }
+    };
+    Lowpass, "settled by the count alone", |ticket, buffer| {
+        counted_alone(ticket, buffer, band(ticket).beta)
+    };
+    Lowpass, "settled by the elements alone", elements_alone;
+    Lowpass, "settled up to 713 alone", above_refused;
+    Lowpass, "one tap refused with 16", one_tap_refused;
+    Lowpass, "the series tested before the length", |ticket, buffer| {
+        swapped(ticket, buffer, 8, series_refused(band(ticket)))
+    };
+    Lowpass, "the series tested before the count", |ticket, buffer| {
+        swapped(ticket, buffer, 6, series_refused(band(ticket)))
+    };
+    Lowpass, "the series tested before the beta", |ticket, buffer| {
+        swapped(ticket, buffer, 4, series_refused(band(ticket)))
     };
     Lowpass, "10 for every ticket", |_ticket, _buffer| {
         Report::plain(10)

@@ -4,6 +4,7 @@
 
 use sdrk_core::window::bessel_i0;
 
+use crate::kaiser::settling::{is_settled, series};
 use crate::lowpass;
 use crate::retune::{Design, KAISER, Past, Side, Tuned, Turn, forged, record_of};
 use crate::run::designers::Answer;
@@ -142,6 +143,62 @@ fn beta_refused(turn: &Turn) -> Option<Report> {
     }
 }
 
+/// The new beta, or the one that is kept.
+fn beta(past: &Past, turn: &Turn) -> f64 {
+    match *turn {
+        Turn::Cutoff { .. } => past.design.beta,
+        Turn::Beta { beta } => beta,
+    }
+}
+
+/// The right answer, but where it is refusal `number` and the series doesn't settle, 16.
+fn series_before(past: &Past, turn: &Turn, buffer: &mut [u8], number: u32) -> Tuned {
+    // The window has no beta where the refusal is 7.
+    let taken = number == 7 || past.design.window == KAISER;
+    let refused = taken && !is_settled(beta(past, turn));
+    swapped(
+        past,
+        turn,
+        buffer,
+        number,
+        refused.then(|| Report::plain(16)),
+    )
+}
+
+/// The right answer, but 16 where it is accepted and the turn as said.
+fn refused_too(
+    past: &Past,
+    turn: &Turn,
+    buffer: &mut [u8],
+    said: impl FnOnce(&Design) -> bool,
+) -> Tuned {
+    let came = buffer.to_vec();
+    let tuned = right(past, turn, buffer);
+    if tuned.report.is_accepted() && said(&tuned.design) {
+        buffer.copy_from_slice(&came);
+        return Tuned {
+            design: past.design,
+            report: Report::plain(16),
+        };
+    }
+    tuned
+}
+
+/// The right answer, with the record that `change` makes of the old one after refusal `number`.
+fn spoilt_at(
+    past: &Past,
+    turn: &Turn,
+    buffer: &mut [u8],
+    number: u32,
+    change: impl FnOnce(Design) -> Design,
+) -> Tuned {
+    let mut tuned = right(past, turn, buffer);
+    if tuned.report.number == number {
+        tuned.design = change(tuned.design);
+    }
+    tuned
+}
+
 fn rate_refused(turn: &Turn) -> Option<Report> {
     match *turn {
         Turn::Cutoff { rate, .. } if bad(rate) => Some(Report::plain(1)),
@@ -227,6 +284,53 @@ const FIRST: &[Fault] = &[
         },
         forged: false,
     },
+    Fault {
+        what: "a first design refused with 10 before 16",
+        wrong: Side {
+            design: |band, buffer| {
+                let mut tuned = first(band, buffer);
+                if tuned.report.number == 16 {
+                    tuned.report.number = 10;
+                }
+                tuned
+            },
+            ..RIGHT
+        },
+        forged: false,
+    },
+    Fault {
+        what: "a first design of one tap refused with 16",
+        wrong: Side {
+            design: |band, buffer| {
+                let came = buffer.to_vec();
+                let tuned = first(band, buffer);
+                if tuned.report.is_accepted() && tuned.design.series == f64::INFINITY {
+                    buffer.copy_from_slice(&came);
+                    return Tuned {
+                        design: Design::default(),
+                        report: Report::plain(16),
+                    };
+                }
+                tuned
+            },
+            ..RIGHT
+        },
+        forged: false,
+    },
+    Fault {
+        what: "the series kept of a first design refused with 16",
+        wrong: Side {
+            design: |band, buffer| {
+                let mut tuned = first(band, buffer);
+                if tuned.report.number == 16 {
+                    tuned.design.series = bessel_i0(band.beta);
+                }
+                tuned
+            },
+            ..RIGHT
+        },
+        forged: false,
+    },
 ];
 
 const TURNS: &[Fault] = turns![false:
@@ -250,21 +354,25 @@ const TURNS: &[Fault] = turns![false:
         spoilt(past, turn, buffer, Design { fraction, ..past.design })
     };
     "the new series after a beta is refused with 10", |past, turn, buffer| {
-        let mut tuned = right(past, turn, buffer);
-        if let (10, Turn::Beta { beta }) = (tuned.report.number, *turn) {
-            tuned.design.series = bessel_i0(beta);
-        }
-        tuned
+        let series = bessel_i0(beta(past, turn));
+        spoilt_at(past, turn, buffer, 10, |kept| Design { series, ..kept })
+    };
+    "the new series after a beta is refused with 16", |past, turn, buffer| {
+        let series = bessel_i0(beta(past, turn));
+        spoilt_at(past, turn, buffer, 16, |kept| Design { series, ..kept })
+    };
+    "the new beta after it is refused with 16", |past, turn, buffer| {
+        let beta = beta(past, turn);
+        spoilt_at(past, turn, buffer, 16, |kept| Design { beta, ..kept })
+    };
+    "the record zeroed at a 16", |past, turn, buffer| {
+        spoilt_at(past, turn, buffer, 16, |_| Design::default())
     };
     "the record zeroed at a refusal", |past, turn, buffer| {
         spoilt(past, turn, buffer, Design::default())
     };
     "the record zeroed at a wrong length", |past, turn, buffer| {
-        let mut tuned = right(past, turn, buffer);
-        if tuned.report.number == 8 {
-            tuned.design = Design::default();
-        }
-        tuned
+        spoilt_at(past, turn, buffer, 8, |_| Design::default())
     };
     "the first record after a refusal", |past, turn, buffer| {
         let record = record_of(&past.first, past.design.taps, past.design.sum);
@@ -282,6 +390,13 @@ const TURNS: &[Fault] = turns![false:
     "element 0 written before a sum is refused", |past, turn, buffer| {
         let tuned = right(past, turn, buffer);
         if tuned.report.number == 10 {
+            write(&[1.0], buffer);
+        }
+        tuned
+    };
+    "element 0 written before a series is refused", |past, turn, buffer| {
+        let tuned = right(past, turn, buffer);
+        if tuned.report.number == 16 {
             write(&[1.0], buffer);
         }
         tuned
@@ -407,14 +522,16 @@ const TURNS: &[Fault] = turns![false:
             _ => right(past, turn, buffer),
         }
     };
-    "an infinite series refused with 10 at one tap", |past, turn, buffer| {
-        let came = buffer.to_vec();
-        let tuned = right(past, turn, buffer);
-        if tuned.report.is_accepted() && is_beta(turn) && tuned.design.series == f64::INFINITY {
-            buffer.copy_from_slice(&came);
-            return Tuned { design: past.design, report: Report::plain(10) };
-        }
-        tuned
+    "one tap refused with 16 at a new beta", |past, turn, buffer| {
+        let beta = is_beta(turn);
+        refused_too(past, turn, buffer, |new| beta && new.series == f64::INFINITY)
+    };
+    "one tap refused with 16 at a new cutoff", |past, turn, buffer| {
+        let beta = is_beta(turn);
+        refused_too(past, turn, buffer, |new| !beta && new.series == f64::INFINITY)
+    };
+    "settled up to 713 alone", |past, turn, buffer| {
+        refused_too(past, turn, buffer, |new| new.taps > 1 && new.beta > 713.0)
     };
     "an infinite series not kept", |past, turn, buffer| {
         kept(past, turn, buffer, |old, new| Design {
@@ -422,9 +539,32 @@ const TURNS: &[Fault] = turns![false:
             ..new
         })
     };
-    "a beta whose series is infinite refused with 4", |past, turn, buffer| {
-        let beta = is_beta(turn);
-        told(past, turn, buffer, 10, |report| if beta { Report::plain(4) } else { report })
+    "4 in place of 16", |past, turn, buffer| {
+        told(past, turn, buffer, 16, |_| Report::plain(4))
+    };
+    "10 before 16", |past, turn, buffer| {
+        told(past, turn, buffer, 16, |_| Report::plain(10))
+    };
+    "settled by the count alone", |past, turn, buffer| {
+        let settled = series(beta(past, turn)).terms < 500;
+        swapped(past, turn, buffer, 16, settled.then(|| Report::plain(10)))
+    };
+    "a beta taken that doesn't settle", |past, turn, buffer| {
+        let tuned = right(past, turn, buffer);
+        if tuned.report.number == 16 {
+            let (design, taps) = (made(past, turn), past.design.taps);
+            return Tuned { design, report: Report::accepted(taps, design.sum) };
+        }
+        tuned
+    };
+    "the series tested before the beta", |past, turn, buffer| {
+        series_before(past, turn, buffer, 4)
+    };
+    "the series tested before the length", |past, turn, buffer| {
+        series_before(past, turn, buffer, 8)
+    };
+    "the series tested before 7", |past, turn, buffer| {
+        series_before(past, turn, buffer, 7)
     };
     "a new beta taken on Hann", |past, turn, buffer| {
         let mut kept = past.design;
@@ -494,6 +634,29 @@ const FORGED: &[Fault] = turns![true:
     "a record's beta not judged at a new cutoff", |past, turn, buffer| {
         let beta = is_beta(turn);
         told(past, turn, buffer, 4, |report| if beta { report } else { Report::plain(10) })
+    };
+    "a record's beta settled by its series", |past, turn, buffer| {
+        let settled = !is_beta(turn) && past.design.series.is_finite();
+        swapped(past, turn, buffer, 16, settled.then(|| Report::plain(10)))
+    };
+    "16 by a record's infinite series", |past, turn, buffer| {
+        let Design { window, series, taps, .. } = past.design;
+        let infinite = !is_beta(turn) && window == KAISER && series == f64::INFINITY && taps > 1;
+        swapped(past, turn, buffer, 10, infinite.then(|| Report::plain(16)))
+    };
+    "a record of one tap refused with 16", |past, turn, buffer| {
+        let one = past.design.taps == 1 && past.design.window == KAISER;
+        let refused = one && !is_settled(beta(past, turn));
+        refused_too(past, turn, buffer, |_| refused)
+    };
+    "the series tested before the cutoff", |past, turn, buffer| {
+        series_before(past, turn, buffer, 2)
+    };
+    "the series tested before the rate", |past, turn, buffer| {
+        series_before(past, turn, buffer, 1)
+    };
+    "the series tested before the count", |past, turn, buffer| {
+        series_before(past, turn, buffer, 6)
     };
     "the record's own sum used again", |past, turn, buffer| {
         let mut tuned = right(past, turn, buffer);

@@ -2,10 +2,10 @@
 
 use sdrk_blocks::design::kaiser_beta;
 
-use crate::kaiser::faults::width_refused;
+use crate::kaiser::faults::{counted_alone, series_refused, width_refused};
 use crate::lowpass::faults::rate_refused;
 use crate::run::designers::{self, Answer};
-use crate::run::faults::{Fault, bad, changed, faults, of, right, swapped, write};
+use crate::run::faults::{Fault, bad, changed, faults, of, right, spoilt, swapped, write};
 use crate::run::report::Report;
 use crate::run::tickets::{Band, Kind, LARGEST_COUNT, Spec, Ticket};
 
@@ -27,6 +27,11 @@ fn edge_refused(spec: Spec) -> Option<Report> {
 fn attenuation_refused(attenuation: f64) -> Option<Report> {
     let taken = attenuation.abs() >= 8.0 && attenuation.abs() < f64::INFINITY;
     (!taken).then(|| Report::plain(4))
+}
+
+/// The beta of a spec.
+fn beta(ticket: &Ticket) -> f64 {
+    kaiser_beta(spec(ticket).attenuation.abs())
 }
 
 /// The count of a spec that is not refused.
@@ -130,6 +135,9 @@ pub const FAULTS: &[Fault] = faults![
             report
         }
     };
+    SpecNumTaps, "16 where no series is taken", |ticket, buffer| {
+        swapped(ticket, buffer, 0, series_refused(beta(ticket)))
+    };
     SpecLowpass, "a quotient that underflows not tested", |ticket, buffer| {
         let refused = edge_refused(spec(ticket));
         changed(ticket, buffer, (2, 1), |_| refused.unwrap_or(Report::plain(10)))
@@ -150,8 +158,27 @@ pub const FAULTS: &[Fault] = faults![
             if report.expected == LARGEST_COUNT { Report::plain(6) } else { report }
         })
     };
-    SpecLowpass, "an infinite series refused with 4", |ticket, buffer| {
-        changed(ticket, buffer, (10, 0), |_| Report::plain(4))
+    SpecLowpass, "4 in place of 16", |ticket, buffer| {
+        changed(ticket, buffer, (16, 0), |_| Report::plain(4))
+    };
+    SpecLowpass, "10 before 16", |ticket, buffer| {
+        changed(ticket, buffer, (16, 0), |_| Report::plain(10))
+    };
+    SpecLowpass, "settled by the count alone", |ticket, buffer| {
+        counted_alone(ticket, buffer, beta(ticket))
+    };
+    SpecLowpass, "settled up to 713 alone", |ticket, buffer| {
+        swapped(ticket, buffer, 0, (beta(ticket) > 713.0).then(|| Report::plain(16)))
+    };
+    SpecLowpass, "the series tested before the quotient", |ticket, buffer| {
+        let lost = edge_refused(spec(ticket)).is_none();
+        swapped(ticket, buffer, 2, series_refused(beta(ticket)).filter(|_| lost))
+    };
+    SpecLowpass, "the series tested before the count", |ticket, buffer| {
+        swapped(ticket, buffer, 6, series_refused(beta(ticket)))
+    };
+    SpecLowpass, "the series tested before the cap", |ticket, buffer| {
+        swapped(ticket, buffer, 9, series_refused(beta(ticket)))
     };
     SpecLowpass, "the beta in place of the divisor", |ticket, buffer| {
         let report = right(ticket, buffer);
@@ -249,6 +276,19 @@ pub const FAULTS: &[Fault] = faults![
             write(&[1.0], buffer);
         }
         report
+    };
+    SpecDesign, "10 before 16", |ticket, buffer| {
+        changed(ticket, buffer, (16, 0), |_| Report::plain(10))
+    };
+    SpecDesign, "the series tested before the length", |ticket, buffer| {
+        let known = ticket.bytes().is_multiple_of(8) && count(spec(ticket)).is_some();
+        swapped(ticket, buffer, 8, series_refused(beta(ticket)).filter(|_| known))
+    };
+    SpecDesign, "the series tested before the cap", |ticket, buffer| {
+        swapped(ticket, buffer, 9, series_refused(beta(ticket)))
+    };
+    SpecDesign, "element 0 written before a series is refused", |ticket, buffer| {
+        spoilt(ticket, buffer, 16)
     };
     SpecDesign, "taps all 1/n", |ticket, buffer| {
         let Answer { report, taps, .. } = designers::rust(ticket);

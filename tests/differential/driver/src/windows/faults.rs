@@ -5,13 +5,16 @@ use std::f64::consts::PI;
 use sdrk_core::num::q15_from_f64;
 use sdrk_core::window::bessel_i0;
 
-use crate::run::designers;
+use crate::kaiser::faults::series_refused;
+use crate::kaiser::settling::series;
+use crate::run::designers::{self, Answer};
 use crate::run::faults::{
     Fault, changed, cleared, faults, of, reshaped_fixed, reshaped_singles, right, swapped,
     write_fixed, write_singles,
 };
 use crate::run::report::Report;
 use crate::run::tickets::{Form, Format, Kind, Ticket, Window};
+use crate::windows::{divisor, unjudged};
 
 fn window(ticket: &Ticket) -> Window {
     ticket.window().expect("a window")
@@ -211,9 +214,95 @@ fn beta_first(ticket: &Ticket, buffer: &mut [u8]) -> Report {
     swapped(ticket, buffer, 8, beta_refused(ticket))
 }
 
-fn infinite_refused(ticket: &Ticket, buffer: &mut [u8]) -> Report {
-    let infinite = bessel_i0(beta(ticket)).is_infinite();
-    swapped(ticket, buffer, 0, infinite.then(|| Report::plain(10)))
+/// The Rust's own samples, NaN and 0, in place of 16 where the ticket is as said.
+fn handed_out(ticket: &Ticket, buffer: &mut [u8], said: bool) -> Report {
+    let report = right(ticket, buffer);
+    if report.number != 16 || !said {
+        return report;
+    }
+    let Answer {
+        report,
+        fixed,
+        singles,
+        ..
+    } = unjudged(&window(ticket), ticket.bytes());
+    write_fixed(&fixed, buffer);
+    write_singles(&singles, buffer);
+    report
+}
+
+fn not_refused(ticket: &Ticket, buffer: &mut [u8]) -> Report {
+    handed_out(ticket, buffer, true)
+}
+
+fn counted_alone(ticket: &Ticket, buffer: &mut [u8]) -> Report {
+    handed_out(ticket, buffer, series(beta(ticket)).terms < 500)
+}
+
+/// One periodic sample taken as one that takes no series.
+fn one_taken(ticket: &Ticket, buffer: &mut [u8]) -> Report {
+    let one = ticket.bytes() == window(ticket).format.width();
+    handed_out(ticket, buffer, one)
+}
+
+fn sum_refused(ticket: &Ticket, buffer: &mut [u8]) -> Report {
+    changed(ticket, buffer, (16, 0), |_| Report::plain(10))
+}
+
+/// Samples of 0 in place of 16.
+fn zeros(ticket: &Ticket, buffer: &mut [u8]) -> Report {
+    let count = ticket.bytes() / window(ticket).format.width();
+    let report = cleared(ticket, buffer, 16);
+    if report.number == 16 {
+        Report::accepted(count, 0.0)
+    } else {
+        report
+    }
+}
+
+/// An empty buffer refused with 16 too.
+fn empty_unsettled(ticket: &Ticket, buffer: &mut [u8]) -> Report {
+    let other = series_refused(beta(ticket)).filter(|_| ticket.bytes() == 0);
+    swapped(ticket, buffer, 0, other)
+}
+
+/// One symmetric sample refused with 16 too.
+fn one_unsettled(ticket: &Ticket, buffer: &mut [u8]) -> Report {
+    let Window {
+        format, symmetry, ..
+    } = window(ticket);
+    let one = ticket.bytes() == format.width() && symmetry == 1;
+    swapped(
+        ticket,
+        buffer,
+        0,
+        series_refused(beta(ticket)).filter(|_| one),
+    )
+}
+
+/// Every beta above 713 refused, though some of them settle.
+fn above_refused(ticket: &Ticket, buffer: &mut [u8]) -> Report {
+    let Window {
+        format, symmetry, ..
+    } = window(ticket);
+    let divisor = divisor(symmetry, ticket.bytes() / format.width());
+    let above = divisor > 0 && beta(ticket) > 713.0;
+    swapped(ticket, buffer, 0, above.then(|| Report::plain(16)))
+}
+
+/// The series tested before what is refused with that number.
+fn series_before(ticket: &Ticket, buffer: &mut [u8], number: u32) -> Report {
+    swapped(ticket, buffer, number, series_refused(beta(ticket)))
+}
+
+/// The first sample written before the series is refused.
+fn written_before(ticket: &Ticket, buffer: &mut [u8]) -> Report {
+    let width = window(ticket).format.width() as usize;
+    let report = right(ticket, buffer);
+    if report.number == 16 {
+        buffer[..width].fill(0);
+    }
+    report
 }
 
 fn beta_range(ticket: &Ticket, buffer: &mut [u8]) -> Report {
@@ -366,10 +455,27 @@ pub const FAULTS: &[Fault] = faults![
     KaiserF32, "the beta with its values", beta_range;
     KaiserF32, "a negative beta taken", negative_taken;
     KaiserF32, "a beta of -0 refused", negative_zero_refused;
-    KaiserF32, "10 for an infinite series", infinite_refused;
+    KaiserF32, "10 in place of 16", sum_refused;
     KaiserF32, "a beta held to 713", beta_held;
-    KaiserF32, "0 for a NaN sample", |ticket, buffer| {
-        rerounded_singles(ticket, buffer, |value| if value.is_nan() { 0.0 } else { value as f32 })
+    KaiserF32, "NaN samples in place of 16", not_refused;
+    KaiserF32, "samples of 0 in place of 16", zeros;
+    KaiserF32, "settled by the count alone", counted_alone;
+    KaiserF32, "settled up to 713 alone", above_refused;
+    KaiserF32, "one periodic sample without a series", one_taken;
+    KaiserF32, "one symmetric sample refused with 16", one_unsettled;
+    KaiserF32, "an empty buffer refused with 16", empty_unsettled;
+    KaiserF32, "the series tested before the symmetry", |ticket, buffer| {
+        series_before(ticket, buffer, 7)
+    };
+    KaiserF32, "the series tested before the length", |ticket, buffer| {
+        series_before(ticket, buffer, 8)
+    };
+    KaiserF32, "the series tested before the beta", |ticket, buffer| {
+        series_before(ticket, buffer, 4)
+    };
+    KaiserF32, "a sample written before a series is refused", written_before;
+    KaiserF32, "a buffer cleared before a series is refused", |ticket, buffer| {
+        cleared(ticket, buffer, 16)
     };
     KaiserF32, "subnormal samples flushed", |ticket, buffer| {
         rerounded_singles(ticket, buffer, |value| {
@@ -378,9 +484,7 @@ pub const FAULTS: &[Fault] = faults![
         })
     };
     KaiserF32, "the samples truncated", |ticket, buffer| {
-        rerounded_singles(ticket, buffer, |value| {
-            if value.is_nan() { f32::NAN } else { truncated(value) }
-        })
+        rerounded_singles(ticket, buffer, truncated)
     };
     KaiserF32, "not divided by the series at beta", |ticket, buffer| {
         let beta = beta(ticket);
@@ -403,22 +507,24 @@ pub const FAULTS: &[Fault] = faults![
     KaiserQ15, "the beta tested before the length", beta_first;
     KaiserQ15, "a beta of -0 refused", negative_zero_refused;
     KaiserQ15, "1 as -32768", wrapped;
-    KaiserQ15, "-32768 for a NaN sample", |ticket, buffer| {
-        rerounded_fixed(ticket, buffer, |value| {
-            if value.is_nan() { -32768 } else { q15_from_f64(value).0 }
-        })
-    };
-    KaiserQ15, "11 for a NaN sample", |ticket, buffer| {
-        let report = right(ticket, buffer);
-        let Window { form, symmetry, .. } = window(ticket);
-        let divisor = report.count.saturating_sub(symmetry) as f64;
-        let nan = (0..report.count).find(|&n| value(form, n as f64, divisor).is_nan());
-        match nan.filter(|_| divisor > 0.0) {
-            Some(place) => Report::element(place, -1.0, 1.0, f64::NAN),
-            None => report,
-        }
+    KaiserQ15, "10 in place of 16", sum_refused;
+    KaiserQ15, "11 in place of 16", |ticket, buffer| {
+        changed(ticket, buffer, (16, 0), |_| Report::element(0, -1.0, 1.0, f64::NAN))
     };
     KaiserQ15, "a beta held to 713", beta_held;
+    KaiserQ15, "samples of 0 in place of 16", not_refused;
+    KaiserQ15, "settled by the count alone", counted_alone;
+    KaiserQ15, "settled up to 713 alone", above_refused;
+    KaiserQ15, "one periodic sample without a series", one_taken;
+    KaiserQ15, "one symmetric sample refused with 16", one_unsettled;
+    KaiserQ15, "an empty buffer refused with 16", empty_unsettled;
+    KaiserQ15, "the series tested before the length", |ticket, buffer| {
+        series_before(ticket, buffer, 8)
+    };
+    KaiserQ15, "the series tested before the beta", |ticket, buffer| {
+        series_before(ticket, buffer, 4)
+    };
+    KaiserQ15, "a sample written before a series is refused", written_before;
     KaiserQ15, "a buffer cleared before a beta is refused", |ticket, buffer| {
         cleared(ticket, buffer, 4)
     };
