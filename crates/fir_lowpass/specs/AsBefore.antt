@@ -9,7 +9,7 @@ use lib.Ieee.{Float, binary64}
 use Rattle.laws.specs.Binary64.{_⊘_, whole}
 use Rattle.laws.specs.Sums.{sumTo}
 use Rattle.math_numbers.specs.Numbers.{positive}
-use Rattle.verdict.specs.Numbers.{badRate, badFrequency, badAttenuation, badCount, badSum, notSettled}
+use Rattle.verdict.specs.Numbers.{badRate, badFrequency, badAttenuation, badCount, badSum}
 use Rattle.verdict.specs.declared.Refusal.the-variants.{Plain, Range}
 use Rattle.verdict.specs.declared.Verdict.the-variants as Verdict
 use Rattle.verdict.specs.Outcome.{Outcome}

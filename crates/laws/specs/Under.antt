@@ -2,15 +2,15 @@
 -- keep that order, over the format. Assumes nothing.
 use mathlib.Core.Path.{_≡_, refl, sym, _∙_, subst}
 use mathlib.Core.Logic.{_⊎_, inl, inr}
-use mathlib.Core.Bool.{Bool, true, false, not, _&&_, _||_, cond}
+use mathlib.Core.Bool.{Bool, true, false, not, _||_, cond}
 use Prim.Native.Nat.{ℕ, zero, suc, _+_, _*_, _^_, _≤_, _<_}
-use native.Mathlib.Nat.{le-refl, le-of-lt, le-of-eq, mul-le-mul, mul-le-mul-right, mul-pos, zero-lt-suc, mul-lt-mul-of-pos-right, le-of-mul-le-mul-right, lt-of-mul-lt-mul-right}
+use native.Mathlib.Nat.{le-refl, le-of-lt, mul-le-mul, mul-le-mul-right, mul-pos, zero-lt-suc, mul-lt-mul-of-pos-right, le-of-mul-le-mul-right, lt-of-mul-lt-mul-right}
 use native.Mathlib.Omega.{arith}
 use borrow.Author.Tests.{ltb-true, lt-ltb}
 use lib.IntN.{ℤ, pos}
-use lib.Dec.{T, ltb, eqb, ltb→lt, eqb→eq, eqb·suc-zero}
+use lib.Dec.{T, ltb, eqb, eqb·suc-zero}
 use lib.Ieee.{Float, nan, inf, fin, Format, prec, emax, low, up, down, odd, units, round, sum, add, mul, div, lt, le}
-use lib.Ieee.Fits.{round-is, up-pos}
+use lib.Ieee.Fits.{round-is, up-pos, down-pos}
 use lib.Ieee.Order.{drop, kept, round-mono}
 use lib.Ieee.Positive.{num, den, den-pos}
 use lib.Ieee.Scale.{finite}
@@ -24,11 +24,17 @@ natural nan = false
 natural (inf s) = false
 natural (fin s m e) = not s
 
--- the same, or +infinity
+-- a value that isn't NaN, with this sign: set where it is true
+abbrev pub signed : Bool → Float → Bool
+signed s nan = false
+signed true (inf t) = t
+signed false (inf t) = not t
+signed true (fin t m e) = t
+signed false (fin t m e) = not t
+
+-- with its sign clear, +infinity among them
 abbrev pub plain : Float → Bool
-plain nan = false
-plain (inf s) = not s
-plain (fin s m e) = not s
+plain x = signed false x
 
 pub record Under (x y : Float) : Type 0 where
   pub lower : T (natural x)
@@ -44,21 +50,30 @@ pub under-same : (x : Float) → T (natural x) → Under x x
 under-same x p = record { lower = p; upper = p; order = le-refl (num x * den x) }
 
 -- ---- what a fraction rounds to
-odd-plain : (D q k l : ℕ) → T (plain (odd D false q k l))
-unfolding odd
-odd-plain D zero k l = tt
-odd-plain D (suc q) k l = tt
+infinity-signed : (s : Bool) → T (signed s (inf s))
+infinity-signed true = tt
+infinity-signed false = tt
 
-units-plain : (f : Format) (q k : ℕ) → T (plain (units f false q k))
+odd-signed : (D : ℕ) (s : Bool) (q k l : ℕ) → T (signed s (odd D s q k l))
+unfolding odd
+odd-signed D true zero k l = tt
+odd-signed D true (suc q) k l = tt
+odd-signed D false zero k l = tt
+odd-signed D false (suc q) k l = tt
+
+units-signed : (f : Format) (s : Bool) (q k : ℕ) → T (signed s (units f s q k))
 unfolding units
-units-plain f q k = go (ltb (q * 2 ^ k) (2 ^ (low f + suc (emax f))))
+units-signed f s q k = go (ltb (q * 2 ^ k) (2 ^ (low f + suc (emax f))))
   where
-    go : (b : Bool) → T (plain (cond b (odd (suc (prec f)) false q k (low f)) (inf false)))
-    go true = odd-plain (suc (prec f)) q k (low f)
-    go false = tt
+    go : (b : Bool) → T (signed s (cond b (odd (suc (prec f)) s q k (low f)) (inf s)))
+    go true = odd-signed (suc (prec f)) s q k (low f)
+    go false = infinity-signed s
+
+pub round-signed : (f : Format) (s : Bool) (a b : ℕ) → T (signed s (round f s a b))
+round-signed f s a b = rw (round-is f s a b) (units-signed f s (kept (prec f) (a * 2 ^ low f) b) (drop (prec f) (a * 2 ^ low f) b))
 
 pub round-plain : (f : Format) (a b : ℕ) → T (plain (round f false a b))
-round-plain f a b = rw (round-is f false a b) (units-plain f (kept (prec f) (a * 2 ^ low f) b) (drop (prec f) (a * 2 ^ low f) b))
+round-plain f a b = round-signed f false a b
 
 pub of-le : (x y : Float) → T (plain x) → T (plain y) → T (finite y) → T (le x y) → Under x y
 unfolding le
@@ -170,6 +185,58 @@ div-under f {x} {X} (fin false (suc n) d) q p u =
     (round-under f (num x * down d) (suc n * up d * den x) (num X * down d) (suc n * up d * den X) (mul-pos N (den-pos x)) (mul-pos N (den-pos X))
     (over (num x) (den x) (num X) (den X) (down d) (suc n * up d) (p .order))
     (subst (λ (z : Float). T (finite z)) (div-is f X n d (p .upper)) u))
+
+-- ---- one value over another: the larger the divisor, the smaller the quotient
+across : (x dx y dy Y dY : ℕ) → y * dY ≤ Y * dy → x * dY * (y * dx) ≤ x * dy * (Y * dx)
+across x dx y dy Y dY h = let g : y * dY * (x * dx) ≤ Y * dy * (x * dx) = mul-le-mul-right (x * dx) h in omega arith
+
+pub div-over : (f : Format) (x y Y : Float) → T (natural x) → 0 < num y → Under y Y → T (finite (div f x y)) → Under (div f x Y) (div f x y)
+div-over f x nan Y p l q u = absurd (q .lower)
+div-over f x (inf s) Y p l q u = absurd (q .lower)
+div-over f x (fin true n d) Y p l q u = absurd (q .lower)
+div-over f x (fin false zero d) Y p l q u = absurd (omega (arith, l))
+div-over f x (fin false (suc n) d) nan p l q u = absurd (q .upper)
+div-over f x (fin false (suc n) d) (inf s) p l q u = absurd (q .upper)
+div-over f x (fin false (suc n) d) (fin true N D) p l q u = absurd (q .upper)
+div-over f x (fin false (suc n) d) (fin false zero D) p l q u = absurd (none (suc n * up d) (down D) (mul-pos (zero-lt-suc n) (up-pos d)) (down-pos D) (q .order))
+  where
+    none : (y dY : ℕ) → 0 < y → 0 < dY → y * dY ≤ 0 * up D * down d → ⊥
+    none y dY a b h = let g : 0 < y * dY = mul-pos a b in omega arith
+div-over f x (fin false (suc n) d) (fin false (suc N) D) p l q u =
+    let z : 0 < suc n * up d = mul-pos (zero-lt-suc n) (up-pos d) in
+    let Z : 0 < suc N * up D = mul-pos (zero-lt-suc N) (up-pos D) in
+    rw (div-is f x n d p, div-is f x N D p)
+    (round-under f (num x * down D) (suc N * up D * den x) (num x * down d) (suc n * up d * den x) (mul-pos Z (den-pos x)) (mul-pos z (den-pos x))
+    (across (num x) (den x) (suc n * up d) (down d) (suc N * up D) (down D) (q .order))
+    (subst (λ (z : Float). T (finite z)) (div-is f x n d p) u))
+
+-- ---- a square, and a product of two such values
+-- the sign is clear, or there is none
+abbrev pub unsigned : Float → Bool
+unsigned nan = true
+unsigned (inf s) = not s
+unsigned (fin s m e) = not s
+
+plain-unsigned : (x : Float) → T (plain x) → T (unsigned x)
+plain-unsigned nan p = tt
+plain-unsigned (inf s) p = p
+plain-unsigned (fin s m e) p = p
+
+pub unsigned-natural : (x : Float) → T (unsigned x) → T (finite x) → T (natural x)
+unsigned-natural nan p u = u
+unsigned-natural (inf s) p u = u
+unsigned-natural (fin s m e) p u = p
+
+pub square-unsigned : (f : Format) (x : Float) → T (unsigned (mul f x x))
+unfolding mul
+square-unsigned f nan = tt
+square-unsigned f (inf true) = tt
+square-unsigned f (inf false) = tt
+square-unsigned f (fin true m e) = plain-unsigned (round f false (m * up e * (m * up e)) (down e * down e)) (round-plain f (m * up e * (m * up e)) (down e * down e))
+square-unsigned f (fin false m e) = plain-unsigned (round f false (m * up e * (m * up e)) (down e * down e)) (round-plain f (m * up e * (m * up e)) (down e * down e))
+
+pub mul-unsigned : (f : Format) (x y : Float) → T (natural x) → T (natural y) → T (unsigned (mul f x y))
+mul-unsigned f x y p q = plain-unsigned (mul f x y) (subst (λ (z : Float). T (plain z)) (sym (mul-is f x y p q)) (round-plain f (num x * num y) (den x * den y)))
 
 -- ---- the order of two such values, and what lies between
 pub lt-is : (x y : Float) → T (natural x) → T (natural y) → lt x y ≡ ltb (num x * den y) (num y * den x)

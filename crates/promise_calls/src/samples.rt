@@ -1,6 +1,8 @@
-// Windows and a window's gain: demand 1 of each.
+// Windows and a window's gain: demand 1 of each; and of Kaiser's windows that no sample is a NaN, an infinity or
+// negative.
 use c_gain::level::GainReport;
 use verdict::Report;
+ghost use Prim.Native.Nat.{_/_};
 ghost use lib.ListN.{length};
 ghost use Rattle.win_sampled.specs.declared.shape.Shape.the-variants.{Hann, BlackmanHarris, Kaiser};
 ghost use Rattle.c_windows.specs.declared.sample.Sample.the-variants.{Single, Q15};
@@ -8,6 +10,7 @@ ghost use Rattle.c_windows.specs.Codes.{symmetryOf};
 ghost use Rattle.c_windows.specs.Samples.{sampleBytes, windowBytes};
 ghost use Rattle.promise_refusals.specs.Demand.{Numbered, FilledOrKept};
 ghost use Rattle.promise_refusals.specs.Verdicts.{ofSamples};
+ghost use Rattle.promise_windows.specs.Samples.{FiniteSamples};
 
 pub fn hann_f32(symmetry: u64, out: &mut [u8]) -> Report
     ensures { λ r. ⌜ FilledOrKept (sampleBytes Single) (windowBytes Single Hann (symmetryOf symmetry) (length (now (out .entry)))) (now (out .entry)) r (now (out .exit)) ⌝ }
@@ -34,13 +37,13 @@ pub fn blackman_harris_q15(symmetry: u64, out: &mut [u8]) -> Report
 }
 
 pub fn kaiser_f32(beta: f64, symmetry: u64, out: &mut [u8]) -> Report
-    ensures { λ r. ⌜ FilledOrKept (sampleBytes Single) (windowBytes Single (Kaiser beta) (symmetryOf symmetry) (length (now (out .entry)))) (now (out .entry)) r (now (out .exit)) ⌝ }
+    ensures { λ r. ⌜ FilledOrKept (sampleBytes Single) (windowBytes Single (Kaiser beta) (symmetryOf symmetry) (length (now (out .entry)))) (now (out .entry)) r (now (out .exit)) ⌝ ∗ ⌜ FiniteSamples beta (symmetryOf symmetry) (length (now (out .entry)) / 4) r ⌝ }
 {
     c_windows::samples::pel_kaiser_f32(beta, symmetry, &mut *out)
 }
 
 pub fn kaiser_q15(beta: f64, symmetry: u64, out: &mut [u8]) -> Report
-    ensures { λ r. ⌜ FilledOrKept (sampleBytes Q15) (windowBytes Q15 (Kaiser beta) (symmetryOf symmetry) (length (now (out .entry)))) (now (out .entry)) r (now (out .exit)) ⌝ }
+    ensures { λ r. ⌜ FilledOrKept (sampleBytes Q15) (windowBytes Q15 (Kaiser beta) (symmetryOf symmetry) (length (now (out .entry)))) (now (out .entry)) r (now (out .exit)) ⌝ ∗ ⌜ FiniteSamples beta (symmetryOf symmetry) (length (now (out .entry)) / 2) r ⌝ }
 {
     c_windows::samples::pel_kaiser_q15(beta, symmetry, &mut *out)
 }

@@ -1,7 +1,6 @@
 -- Every refusal that a ticket can come to has one of the refusals' numbers: of each judgement, whatever its numbers are.
 -- Assumes nothing.
 use Prim.Native.Nat.{ℕ, zero, suc, _-_, _*_, _/_, _%_}
-use mathlib.Core.Bool.{Bool, cond}
 use mathlib.Core.List.{List}
 use lib.Dec.{eqb, ltb}
 use lib.ListN.{length, getD}
@@ -25,7 +24,6 @@ use Rattle.verdict.specs.declared.Length.the-variants as Length
 use Rattle.wire.specs.Writes.{wholeElements}
 use Rattle.fmt_q15.specs.Q15 as Q15
 use Rattle.fmt_q14.specs.Q14 as Q14
-use Rattle.fmt_f32.specs.Single.{anyOutside}
 use Rattle.fmt_q15.specs.declared.q15.Coded.{Coded}
 use Rattle.fmt_q15.specs.declared.q15.Coded.the-variants as Coded
 use Rattle.math_bessel.specs.declared.Series.{Series}

@@ -2,3 +2,4 @@ pub mod Settling
 pub mod Radicand
 pub mod Root
 pub mod SettlingLaws
+pub mod Values

@@ -1,8 +1,8 @@
 -- Where beta is from 0 to 713, every series of Kaiser's window settles, of whichever length: no series need be asked.
 -- Assumes nothing.
-use Prim.Native.Nat.{ℕ, _*_, _≤_}
+use Prim.Native.Nat.{ℕ, _*_}
 use mathlib.Core.Path.{_≡_, refl, sym, ap, _∙_, subst}
-use mathlib.Core.Bool.{Bool, true, false, _&&_, _||_}
+use mathlib.Core.Bool.{Bool, true, false, _||_}
 use native.Mathlib.Omega.{arith}
 use borrow.Author.Tests.{eq-eqb, ne-eqb}
 use lib.IntN.{ℤ}
@@ -19,7 +19,7 @@ use Rattle.math_bessel.specs.Series.{settled}
 use Rattle.math_settling.specs.Even.{settled-neg}
 use Rattle.math_settling.specs.Small.{under-settled, settled-to-713}
 use Rattle.math_sqrt.specs.Sqrt.{sqrtOf}
-use Rattle.win_shapes.specs.Windows.{kaiserRadicand, kaiserArgument}
+use Rattle.win_shapes.specs.Windows.{kaiserRadicand}
 use Rattle.win_settling.specs.Settling.{elementSettles, kaiserSettles}
 use Rattle.win_settling.specs.Radicand.{radicand-under, radicand-fits}
 use Rattle.win_settling.specs.Root.{root-under}

@@ -1,11 +1,8 @@
 -- `win_settling::element_settles` meets its contract. Assumes nothing.
-use mathlib.Core.Path.{sym, ap, _∙_}
-use lib.Ieee.{Float}
+use mathlib.Core.Path.{ap, _∙_}
 use borrow.Author.Needs.{needs}
-use Rattle.laws.specs.Binary64.{whole}
 use Rattle.math_bessel.specs.Series.{settled}
 use Rattle.math_bessel.specs.declared.Series.{Series}
-use Rattle.win_shapes.specs.Windows.{kaiserRadicand, kaiserArgument}
 use Rattle.win_settling.proofs.element_settles.Statement.{statement}
 use Rattle.win_settling.proofs.element_settles.Tie as tie
 
