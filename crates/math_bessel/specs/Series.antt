@@ -40,8 +40,9 @@ unfoldable pub termsOf : Float → ℕ
 unfolding firstSmall
 termsOf h = firstSmall h 499 (small h 1) 1
 
--- "A series isn't settled if 500 terms passed without its stopping test being met, or its sum isn't finite": the last
--- term taken is small unless none was. A sum that overflows ends the series at once, so the number of terms says nothing.
+-- By the half h of x. "A series isn't settled if 500 terms passed without its stopping test being met, or its sum isn't
+-- finite": the last term taken is small unless none was. A sum that overflows under a finite term ends the series at
+-- once, so the number of terms says nothing.
 unfoldable pub seriesAt : Float → Series
 unfolding termsOf partial small
 seriesAt h = record { sum = partial h (termsOf h); terms = termsOf h; settled = small h (termsOf h) && finite (partial h (termsOf h)) }

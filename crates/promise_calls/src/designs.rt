@@ -1,4 +1,5 @@
-// The designs: demand 1 of each, and demand 3 of those that are divided by their sum.
+// The designs: demand 1 of each, and demand 3 of those that are divided by their sum; and of a low-pass and a half-band
+// that a beta up to 713 is never refused for its series.
 use verdict::Report;
 ghost use lib.ListN.{length};
 ghost use Rattle.wire.specs.Bytes.{floatBytes};
@@ -8,11 +9,12 @@ ghost use Rattle.c_lowpass.specs.Spec.{specOf, specBytes};
 ghost use Rattle.c_lowpass.specs.Prototype.{channelizerBytes};
 ghost use Rattle.c_pulses.specs.Buffers.{halfbandBytes, gaussianBytes, rrcBytes};
 ghost use Rattle.promise_refusals.specs.Demand.{FilledOrKept};
+ghost use Rattle.promise_settling.specs.Settling.{TakenTo713};
 ghost use Rattle.promise_totals.specs.Written.{Totals};
 ghost use Rattle.promise_totals.specs.Mirror.{Mirrored, Vanishes};
 
 pub fn lowpass(cutoff: f64, rate: f64, window: u64, beta: f64, out: &mut [u8]) -> Report
-    ensures { λ r. ⌜ FilledOrKept floatBytes (lowpassBytes cutoff rate (windowOf window beta) (length (now (out .entry)))) (now (out .entry)) r (now (out .exit)) ⌝ ∗ ⌜ Totals r (now (out .exit)) ⌝ }
+    ensures { λ r. ⌜ FilledOrKept floatBytes (lowpassBytes cutoff rate (windowOf window beta) (length (now (out .entry)))) (now (out .entry)) r (now (out .exit)) ⌝ ∗ ⌜ Totals r (now (out .exit)) ⌝ ∗ ⌜ TakenTo713 beta r ⌝ }
 {
     c_lowpass::lowpass::pel_lowpass(cutoff, rate, window, beta, &mut *out)
 }
@@ -52,7 +54,7 @@ pub fn channelizer_prototype(
 
 // Its taps mirror to the bit besides, and are zero where half-bands are zero.
 pub fn halfband(beta: f64, out: &mut [u8]) -> Report
-    ensures { λ r. ⌜ FilledOrKept floatBytes (halfbandBytes beta (length (now (out .entry)))) (now (out .entry)) r (now (out .exit)) ⌝ ∗ ⌜ Totals r (now (out .exit)) ⌝ ∗ ⌜ Mirrored r (now (out .exit)) ⌝ ∗ ⌜ Vanishes r (now (out .exit)) ⌝ }
+    ensures { λ r. ⌜ FilledOrKept floatBytes (halfbandBytes beta (length (now (out .entry)))) (now (out .entry)) r (now (out .exit)) ⌝ ∗ ⌜ Totals r (now (out .exit)) ⌝ ∗ ⌜ Mirrored r (now (out .exit)) ⌝ ∗ ⌜ Vanishes r (now (out .exit)) ⌝ ∗ ⌜ TakenTo713 beta r ⌝ }
 {
     c_pulses::halfbands::pel_halfband(beta, &mut *out)
 }

@@ -1,5 +1,5 @@
 // Windows and a window's gain: demand 1 of each; and of Kaiser's windows that no sample is a NaN, an infinity or
-// negative.
+// negative, and that a beta up to 713 is never refused for its series.
 use c_gain::level::GainReport;
 use verdict::Report;
 ghost use Prim.Native.Nat.{_/_};
@@ -10,7 +10,7 @@ ghost use Rattle.c_windows.specs.Codes.{symmetryOf};
 ghost use Rattle.c_windows.specs.Samples.{sampleBytes, windowBytes};
 ghost use Rattle.promise_refusals.specs.Demand.{Numbered, FilledOrKept};
 ghost use Rattle.promise_refusals.specs.Verdicts.{ofSamples};
-ghost use Rattle.promise_windows.specs.Samples.{FiniteSamples};
+ghost use Rattle.promise_settling.specs.Settling.{TakenTo713, FiniteSamples};
 
 pub fn hann_f32(symmetry: u64, out: &mut [u8]) -> Report
     ensures { λ r. ⌜ FilledOrKept (sampleBytes Single) (windowBytes Single Hann (symmetryOf symmetry) (length (now (out .entry)))) (now (out .entry)) r (now (out .exit)) ⌝ }
@@ -37,13 +37,13 @@ pub fn blackman_harris_q15(symmetry: u64, out: &mut [u8]) -> Report
 }
 
 pub fn kaiser_f32(beta: f64, symmetry: u64, out: &mut [u8]) -> Report
-    ensures { λ r. ⌜ FilledOrKept (sampleBytes Single) (windowBytes Single (Kaiser beta) (symmetryOf symmetry) (length (now (out .entry)))) (now (out .entry)) r (now (out .exit)) ⌝ ∗ ⌜ FiniteSamples beta (symmetryOf symmetry) (length (now (out .entry)) / 4) r ⌝ }
+    ensures { λ r. ⌜ FilledOrKept (sampleBytes Single) (windowBytes Single (Kaiser beta) (symmetryOf symmetry) (length (now (out .entry)))) (now (out .entry)) r (now (out .exit)) ⌝ ∗ ⌜ FiniteSamples beta (symmetryOf symmetry) (length (now (out .entry)) / 4) r ⌝ ∗ ⌜ TakenTo713 beta r ⌝ }
 {
     c_windows::samples::pel_kaiser_f32(beta, symmetry, &mut *out)
 }
 
 pub fn kaiser_q15(beta: f64, symmetry: u64, out: &mut [u8]) -> Report
-    ensures { λ r. ⌜ FilledOrKept (sampleBytes Q15) (windowBytes Q15 (Kaiser beta) (symmetryOf symmetry) (length (now (out .entry)))) (now (out .entry)) r (now (out .exit)) ⌝ ∗ ⌜ FiniteSamples beta (symmetryOf symmetry) (length (now (out .entry)) / 2) r ⌝ }
+    ensures { λ r. ⌜ FilledOrKept (sampleBytes Q15) (windowBytes Q15 (Kaiser beta) (symmetryOf symmetry) (length (now (out .entry)))) (now (out .entry)) r (now (out .exit)) ⌝ ∗ ⌜ FiniteSamples beta (symmetryOf symmetry) (length (now (out .entry)) / 2) r ⌝ ∗ ⌜ TakenTo713 beta r ⌝ }
 {
     c_windows::samples::pel_kaiser_q15(beta, symmetry, &mut *out)
 }

@@ -36,7 +36,7 @@ use Rattle.c_windows.specs.declared.codes.Coded.the-variants.{Known}
 use Rattle.c_windows.specs.declared.sample.Sample.{Sample}
 use Rattle.promise_refusals.specs.Listed.{Listed, never-zero}
 use Rattle.promise_refusals.specs.Judgements.{window-listed}
-use Rattle.promise_windows.specs.Samples.{FiniteSamples}
+use Rattle.promise_settling.specs.Settling.{FiniteSamples}
 
 -- ---- a sample, where every series has settled; i0 is the series at beta
 settled-sample : (beta : Float) (d n i : ℕ) → kaiserSettles beta d n ≡ true → i < n → T (natural (sampleAt (Kaiser beta) (normOf (Kaiser beta)) d i))

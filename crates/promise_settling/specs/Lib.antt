@@ -1,0 +1,3 @@
+pub mod Settling
+pub mod SamplesLaws
+pub mod TakenLaws

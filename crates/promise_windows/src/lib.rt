@@ -1,1 +1,0 @@
-// No code: what holds of the samples of a Kaiser window that is accepted.
