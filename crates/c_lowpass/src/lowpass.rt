@@ -20,8 +20,9 @@ ghost use Rattle.c_lowpass.specs.Lowpass.{lowpassCoded, lowpassBytes};
 // Judges a design and gives its number of taps as the count and the sum that they are divided by as the value. Windows:
 // 0 Hann, 1 Hamming, 2 Blackman, 3 Kaiser with beta, which the others leave out.
 // Refused, in this order: 7 another window; 1 a rate that isn't finite and positive; 2 with 0, rate/2, cutoff where
-// cutoff/rate isn't between 0 and 1/2; 6 no taps or more than 2^24; 4 a beta that isn't finite and not negative; 10 a
-// sum that is 0 or not finite. Example: (0.25, 1, 0, 0, 1) has the sum 0.5.
+// cutoff/rate isn't between 0 and 1/2; 6 no taps or more than 2^24; 4 a beta that isn't finite and not negative; 16 a
+// series that hasn't settled, as at a beta above about 714, where there are more taps than one; 10 a sum that is 0 or
+// not finite. Example: (0.25, 1, 0, 0, 1) has the sum 0.5.
 #[no_mangle]
 pub extern "C" fn pel_lowpass_new(
     cutoff: f64,

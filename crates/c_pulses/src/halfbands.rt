@@ -15,7 +15,8 @@ ghost use Rattle.c_pulses.specs.Buffers.{halfbandBytes};
 
 // Judges a half-band of so many taps with Kaiser's window: their number as the count, the sum that they are divided by
 // last as the value. Refused, in this order: 6 where the taps aren't 3 mod 4, or are more than 2^24; 4 a beta that
-// isn't finite and not negative; 10 a sum that is 0 or not finite. Example: 5 taps are refused with 6.
+// isn't finite and not negative; 16 a series that hasn't settled, as at a beta above about 714; 10 a sum that is 0 or
+// not finite. Example: 5 taps are refused with 6.
 #[no_mangle]
 pub extern "C" fn pel_halfband_new(beta: f64, taps: u64) -> Report
     ensures { λ r. ⌜ r ≡ outcomeReport (outcomeOf (halfbandOf beta taps)) ⌝ }

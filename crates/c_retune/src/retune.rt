@@ -54,8 +54,8 @@ pub extern "C" fn pel_design_lowpass(
 // Turns the knob to a new cutoff, given with its rate: the taps in the buffer, and the record to keep from now on. The
 // series at beta is the one that the record keeps. Refused, in this order: 7 a record whose window has no code; 8 a
 // length that isn't a multiple of 8, with the length to the last whole tap and the length, in bytes; 8 a buffer for
-// another number of taps than the record has, with both numbers of taps; then as pel_lowpass: 1, 2, 6, 4, 10. A refusal
-// leaves the record and the buffer as they came.
+// another number of taps than the record has, with both numbers of taps; then as pel_lowpass: 1, 2, 6, 4, 16, 10. A
+// refusal leaves the record and the buffer as they came.
 #[no_mangle]
 pub extern "C" fn pel_design_new_cutoff(
     design: Design,
@@ -78,7 +78,7 @@ pub extern "C" fn pel_design_new_cutoff(
 
 // Turns the knob to a new beta: the taps in the buffer, and the record to keep from now on.
 // Refused, in this order: 7 a window other than Kaiser's, before anything else; 8 and 8 as pel_design_new_cutoff; then
-// as pel_lowpass with the cutoff that the record keeps: 2, 6, 4, 10, of which 2 and 6 come only of a record that no
+// as pel_lowpass with the cutoff that the record keeps: 2, 6, 4, 16, 10, of which 2 and 6 come only of a record that no
 // design gave. A refusal leaves the record and the buffer as they came.
 #[no_mangle]
 pub extern "C" fn pel_design_new_beta(design: Design, beta: f64, out: &mut [u8]) -> Tuned

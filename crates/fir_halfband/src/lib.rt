@@ -72,7 +72,7 @@ fn total(lp: Lowpass, raws: &[f64], n: u64) -> f64
 }
 
 // The design of a half-band of n taps with Kaiser's window. Refused, in this order: 6 where n isn't 3 mod 4; as a
-// low-pass of n taps with the cutoff at a quarter of the rate: 6, 4, 10; 10 where the sum of the taps is 0 or not
+// low-pass of n taps with the cutoff at a quarter of the rate: 6, 4, 16, 10; 10 where the sum of the taps is 0 or not
 // finite.
 // The first raw taps are left in `raws`, as many as it has places.
 pub fn prepare(beta: f64, n: u64, raws: &mut [f64]) -> HalfbandDesigned

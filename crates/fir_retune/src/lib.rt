@@ -19,7 +19,7 @@ pub struct Retuned {
 }
 
 // The design with a new cutoff, given with its rate. The series at beta is the one that the record keeps. Refused as a
-// low-pass: 1, 2, 6, 4, 10.
+// low-pass: 1, 2, 6, 4, 16, 10.
 // The first raw taps are left in `raws`, as many as it has places.
 pub fn prepare_cutoff(lp: Lowpass, cutoff: f64, rate: f64, raws: &mut [f64]) -> Designed
     ensures { λ r. ⌜ PreparesLowpass (newCutoffOf lp cutoff rate) r (now (raws .exit)) ⌝ }
@@ -29,8 +29,8 @@ pub fn prepare_cutoff(lp: Lowpass, cutoff: f64, rate: f64, raws: &mut [f64]) -> 
 }
 
 // The design with a new beta, at the cutoff that the record keeps. Refused: 7 a window other than Kaiser's, before
-// anything else; then as a low-pass with that cutoff at the rate 1: 2, 6, 4, 10, of which 2 and 6 come only of a record
-// that no design gives.
+// anything else; then as a low-pass with that cutoff at the rate 1: 2, 6, 4, 16, 10, of which 2 and 6 come only of a
+// record that no design gives.
 // The first raw taps are left in `raws`, as many as it has places.
 pub fn prepare_beta(lp: Lowpass, beta: f64, raws: &mut [f64]) -> Designed
     ensures { λ r. ⌜ PreparesLowpass (newBetaOf lp beta) r (now (raws .exit)) ⌝ }
