@@ -20,7 +20,7 @@ use Rattle.win_settling.specs.Settling.{kaiserSettles}
 use Rattle.fir_sinc.specs.Windows.{normOf}
 use Rattle.fir_sinc.specs.Taps.{rawAt}
 use Rattle.fir_sinc.specs.declared.window.Window.{Window}
-use Rattle.fir_sinc.specs.declared.window.Window.the-variants.{Hann, Hamming, Blackman, Kaiser}
+use Rattle.fir_sinc.specs.declared.window.Window.the-variants.{Hann, Hamming, Blackman, Kaiser, Cosines}
 use Rattle.fir_lowpass.specs.declared.lowpass.Lowpass.{Lowpass}
 use Rattle.fir_lowpass.specs.declared.lowpass.Designed.{Designed}
 use Rattle.fir_lowpass.specs.declared.lowpass.Designed.the-variants.{Ready, Refused}
@@ -41,6 +41,7 @@ betaTaken Hann = true
 betaTaken Hamming = true
 betaTaken Blackman = true
 betaTaken (Kaiser beta) = finite beta && le (whole 0) beta
+betaTaken (Cosines c) = true
 
 -- every series that n taps take has settled: Kaiser's at beta and at each tap, of which one tap takes none
 unfoldable pub seriesSettle : Window → ℕ → Bool
@@ -48,6 +49,7 @@ seriesSettle Hann n = true
 seriesSettle Hamming n = true
 seriesSettle Blackman n = true
 seriesSettle (Kaiser beta) n = kaiserSettles beta (n - 1) n
+seriesSettle (Cosines c) n = true
 
 unfoldable pub usable : Float → Bool
 usable s = finite s && ne s (whole 0)

@@ -56,6 +56,7 @@ fn takes_beta(w: Window) -> bool
         Window::Hamming => true,
         Window::Blackman => true,
         Window::Kaiser(beta) => math_numbers::is_finite(beta) && 0.0 <= beta,
+        Window::Cosines(_) => true,
     }
 }
 
@@ -69,6 +70,7 @@ fn series_settle(w: Window, n: u64) -> bool
         Window::Hamming => true,
         Window::Blackman => true,
         Window::Kaiser(beta) => win_settling::settles(beta, n - 1, n),
+        Window::Cosines(_) => true,
     }
 }
 

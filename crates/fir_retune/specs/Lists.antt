@@ -14,7 +14,7 @@ use Rattle.verdict.specs.declared.Refusal.the-variants.{Plain}
 use Rattle.verdict.specs.declared.Verdict.{Verdict}
 use Rattle.fir_sinc.specs.Windows.{normOf}
 use Rattle.fir_sinc.specs.declared.window.Window.{Window}
-use Rattle.fir_sinc.specs.declared.window.Window.the-variants.{Hann, Hamming, Blackman, Kaiser}
+use Rattle.fir_sinc.specs.declared.window.Window.the-variants.{Hann, Hamming, Blackman, Kaiser, Cosines}
 use Rattle.fir_lowpass.specs.Lowpass.{inside, judgementOf, lowpassWith, lowpassOf}
 use Rattle.fir_lowpass.specs.LowpassLaws.{never, designed, Passed, ready-with}
 use Rattle.fir_lowpass.specs.declared.lowpass.Lowpass.{Lowpass}
@@ -58,6 +58,7 @@ placed-is t (NewBeta beta) m e = go (t .window) e
     go Hamming e = absurd (never (Plain badCode) m e)
     go Blackman e = absurd (never (Plain badCode) m e)
     go (Kaiser b) e = e
+    go (Cosines c) e = absurd (never (Plain badCode) m e)
 
 -- so the record after a turn is designed from the numbers after it
 pub next : (t : Numbers) (l : Lowpass) (o : Operation) → designedFrom t ≡ Ready l → designedFrom (acceptedIn t o (comesOf t o)) ≡ Ready (keptOf l (turnedOf l o))

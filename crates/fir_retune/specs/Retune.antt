@@ -7,7 +7,7 @@ use Rattle.verdict.specs.declared.Refusal.the-variants.{Plain}
 use Rattle.verdict.specs.declared.Verdict.{Verdict}
 use Rattle.verdict.specs.declared.Verdict.the-variants as Verdict
 use Rattle.fir_sinc.specs.declared.window.Window.{Window}
-use Rattle.fir_sinc.specs.declared.window.Window.the-variants.{Hann, Hamming, Blackman, Kaiser}
+use Rattle.fir_sinc.specs.declared.window.Window.the-variants.{Hann, Hamming, Blackman, Kaiser, Cosines}
 use Rattle.fir_lowpass.specs.Lowpass.{lowpassWith, lowpassOf}
 use Rattle.fir_lowpass.specs.declared.lowpass.Lowpass.{Lowpass}
 use Rattle.fir_lowpass.specs.declared.lowpass.Designed.{Designed}
@@ -24,6 +24,7 @@ whereKaiser Hann d = Refused (Plain badCode)
 whereKaiser Hamming d = Refused (Plain badCode)
 whereKaiser Blackman d = Refused (Plain badCode)
 whereKaiser (Kaiser beta) d = d
+whereKaiser (Cosines c) d = Refused (Plain badCode)
 
 -- the record keeps its cutoff as a fraction of the rate, and so does this: at the rate 1
 unfoldable pub newBetaOf : Lowpass → Float → Designed

@@ -5,7 +5,7 @@ use Rattle.verdict.specs.Counted.{Counted}
 use Rattle.verdict.specs.Numbers.{badCode}
 use Rattle.verdict.specs.declared.Refusal.the-variants.{Plain}
 use Rattle.fir_sinc.specs.declared.window.Window.{Window}
-use Rattle.fir_sinc.specs.declared.window.Window.the-variants.{Hann, Hamming, Blackman, Kaiser}
+use Rattle.fir_sinc.specs.declared.window.Window.the-variants.{Hann, Hamming, Blackman, Kaiser, Cosines}
 use Rattle.fir_lowpass.specs.Lowpass.{lowpassWith, lowpassOf, outcomeOf}
 use Rattle.fir_lowpass.specs.LowpassLaws.{with-count, lowpass-count}
 use Rattle.fir_lowpass.specs.declared.lowpass.Lowpass.{Lowpass}
@@ -26,6 +26,7 @@ beta-has P coded l beta p = go (l .window) _ p
     go Hamming d p = coded
     go Blackman d p = coded
     go (Kaiser b) d p = p
+    go (Cosines c) d p = coded
 
 pub cutoff-count : (l : Lowpass) (cutoff rate : Float) → Counted (l .n) (outcomeOf (newCutoffOf l cutoff rate))
 cutoff-count l cutoff rate = cutoff-has (λ (d : Designed). Counted (l .n) (outcomeOf d)) l cutoff rate (with-count cutoff rate (l .window) (l .i0) (l .n))

@@ -41,6 +41,7 @@ pub fn prepare_beta(lp: Lowpass, beta: f64, raws: &mut [f64]) -> Designed
         Window::Hann => Designed::Refused(Refusal::Plain(BAD_CODE)),
         Window::Hamming => Designed::Refused(Refusal::Plain(BAD_CODE)),
         Window::Blackman => Designed::Refused(Refusal::Plain(BAD_CODE)),
+        Window::Cosines(_) => Designed::Refused(Refusal::Plain(BAD_CODE)),
     }
 }
 

@@ -8,9 +8,9 @@ use lib.Dec.{eqb}
 use lib.Ieee.{Float}
 use Rattle.laws.specs.Binary64.{_⊗_, whole}
 use Rattle.fir_sinc.specs.declared.window.Window.{Window}
-use Rattle.fir_sinc.specs.declared.window.Window.the-variants.{Hann, Hamming, Blackman, Kaiser}
+use Rattle.fir_sinc.specs.declared.window.Window.the-variants.{Hann, Hamming, Blackman, Kaiser, Cosines}
 use Rattle.fir_sinc.specs.Taps.{idealAt, rawAt}
-use Rattle.win_shapes.specs.Windows.{hannAt, hammingAt, blackmanAt, kaiserValue, kaiserAt}
+use Rattle.win_shapes.specs.Windows.{hannAt, hammingAt, blackmanAt, cosinesAt, kaiserValue, kaiserAt}
 use Rattle.win_shapes.specs.Steps.{argumentOf}
 use Rattle.win_shapes.specs.Steps as Steps
 use Rattle.win_shapes.specs.declared.curve.Curve.{Curve}
@@ -22,6 +22,7 @@ curveOf Hann = Curve.Cosines
 curveOf Hamming = Curve.Cosines
 curveOf Blackman = Curve.Cosines
 curveOf (Kaiser beta) = Curve.Kaiser beta
+curveOf (Cosines c) = Curve.Cosines
 
 -- the place of tap i of n
 unfoldable pub placeAt : Window → ℕ → ℕ → Float
@@ -33,6 +34,7 @@ valueOf Hann i0 x = hannAt x
 valueOf Hamming i0 x = hammingAt x
 valueOf Blackman i0 x = blackmanAt x
 valueOf (Kaiser beta) i0 x = kaiserValue i0 x
+valueOf (Cosines c) i0 x = cosinesAt c x
 
 unfoldable pub valueAt : Window → Float → ℕ → Float → Float
 valueAt w i0 n x = cond (eqb n 1) (whole 1) (valueOf w i0 x)
@@ -43,6 +45,7 @@ norm-is Hann = refl
 norm-is Hamming = refl
 norm-is Blackman = refl
 norm-is (Kaiser beta) = refl
+norm-is (Cosines c) = refl
 
 shaped : (w : Window) (i0 : Float) (n i : ℕ) → valueOf w i0 (argumentOf (curveOf w) (placeAt w n i)) ≡ shapeAt w i0 (whole i) (whole (n - 1))
 unfolding shapeAt curveOf placeAt Steps.placeAt argumentOf valueOf kaiserAt
@@ -50,6 +53,7 @@ shaped Hann i0 n i = refl
 shaped Hamming i0 n i = refl
 shaped Blackman i0 n i = refl
 shaped (Kaiser beta) i0 n i = refl
+shaped (Cosines c) i0 n i = refl
 
 pub three-steps : (w : Window) (i0 : Float) (n i : ℕ) → valueAt w i0 n (argumentOf (curveOf w) (placeAt w n i)) ≡ windowAt w i0 n i
 unfolding windowAt valueAt

@@ -1,6 +1,7 @@
-// The windows of a windowed-sinc design, symmetric: one of four, its curve, and its value at a tap.
+// The windows of a windowed-sinc design, symmetric: one of five, its curve, and its value at a tap.
 use math_bessel::Pair;
 use win_shapes::cosines;
+use win_shapes::cosines::Cosines;
 use win_shapes::curve;
 use win_shapes::curve::Curve;
 use win_shapes::kaiser;
@@ -10,12 +11,13 @@ ghost use Rattle.win_shapes.specs.Steps.{argumentOf};
 ghost use Rattle.fir_sinc.specs.Windows.{windowAt, normOf};
 ghost use Rattle.fir_sinc.specs.StepLaws.{curveOf, placeAt, valueOf, valueAt};
 
-// Kaiser's window carries its shape, beta.
+// Kaiser's window carries its shape, beta; a loaded one its numbers.
 pub enum Window {
     Hann,
     Hamming,
     Blackman,
     Kaiser(f64),
+    Cosines(Cosines),
 }
 
 // The curve of a window: cosines, but for Kaiser's.
@@ -27,6 +29,7 @@ pub(crate) fn curve_of(w: Window) -> Curve
         Window::Hamming => Curve::Cosines,
         Window::Blackman => Curve::Cosines,
         Window::Kaiser(beta) => Curve::Kaiser(beta),
+        Window::Cosines(_) => Curve::Cosines,
     }
 }
 
@@ -62,6 +65,7 @@ fn value_of(w: Window, i0: f64, x: f64) -> f64
         Window::Hamming => cosines::hamming(x),
         Window::Blackman => cosines::blackman(x),
         Window::Kaiser(_) => kaiser::value(i0, x),
+        Window::Cosines(c) => cosines::sum_of(c, x),
     }
 }
 

@@ -5,6 +5,7 @@
 use Prim.Native.Nat.{ℕ}
 use mathlib.Core.Path.{_≡_}
 use mathlib.Core.List.{List, [], _∷_}
+use lib.Dec.{T}
 use lib.ListN.{length}
 use lib.Ieee.{Float}
 use Rattle.wire.specs.Bytes.{floatBytes}
@@ -16,7 +17,7 @@ use Rattle.fir_lowpass.specs.declared.lowpass.Designed.{Designed}
 use Rattle.fir_lowpass.specs.declared.lowpass.Designed.the-variants.{Ready}
 use Rattle.fir_retune.specs.Retune.{whereKaiser}
 use Rattle.fir_retune.specs.Operations.{Numbers, designedFrom, Operation, NewCutoff, NewBeta, placed, acceptedIn}
-use Rattle.ticket_codes.specs.Codes.{windowOf}
+use Rattle.ticket_codes.specs.Codes.{windowOf, hasCode}
 use Rattle.ticket_codes.specs.declared.Coded.the-variants.{Known}
 use Rattle.c_retune.specs.Designs.{designAs, fitsIn}
 use Rattle.c_retune.specs.declared.record.Design.{Design}
@@ -34,8 +35,9 @@ abbrev pub acceptedWith : Numbers → Operation → ℕ → Numbers
 acceptedWith t o len = acceptedIn t o (comesWith t o len)
 
 -- ---- the record
--- d is the record of the low-pass that is designed from the numbers t
+-- d is the record of the low-pass that is designed from the numbers t, whose window has a code
 pub record DesignedAs (t : Numbers) (d : Design) : Type 0 where
+  pub coded : T (hasCode (t .window))
   pub design : Lowpass
   pub from : designedFrom t ≡ Ready design
   pub is : d ≡ designAs design

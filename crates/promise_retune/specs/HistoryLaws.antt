@@ -4,7 +4,7 @@ use Prim.Native.Nat.{ℕ, _-_, _/_, _%_}
 use mathlib.Core.Path.{_≡_, refl, sym, ap, _∙_, subst}
 use mathlib.Core.Bool.{Bool, true, false, cond}
 use mathlib.Core.List.{List, [], _∷_}
-use lib.Dec.{eqb}
+use lib.Dec.{T, eqb}
 use lib.ListN.{length}
 use lib.Ieee.{Float}
 use Rattle.laws.specs.Binary64.{_⊘_}
@@ -19,7 +19,7 @@ use Rattle.wire.specs.Writes.{written}
 use Rattle.wire.specs.WritesLaws.{writes-same}
 use Rattle.fir_sinc.specs.Windows.{normOf}
 use Rattle.fir_sinc.specs.declared.window.Window.{Window}
-use Rattle.fir_sinc.specs.declared.window.Window.the-variants.{Hann, Hamming, Blackman, Kaiser}
+use Rattle.fir_sinc.specs.declared.window.Window.the-variants.{Hann, Hamming, Blackman, Kaiser, Cosines}
 use Rattle.fir_lowpass.specs.Lowpass.{lowpassOf, outcomeOf}
 use Rattle.fir_lowpass.specs.LowpassLaws.{never, designed, ready-is}
 use Rattle.fir_lowpass.specs.declared.lowpass.Lowpass.{Lowpass}
@@ -28,8 +28,8 @@ use Rattle.fir_lowpass.specs.declared.lowpass.Designed.the-variants.{Ready, Ref
 use Rattle.fir_retune.specs.Retune.{newCutoffOf, whereKaiser, newBetaOf}
 use Rattle.fir_retune.specs.Operations.{Numbers, designedFrom, Operation, NewCutoff, NewBeta, placed, acceptedIn}
 use Rattle.fir_retune.specs.Lists as Lists
-use Rattle.ticket_codes.specs.Codes.{windowOf, codeOf}
-use Rattle.ticket_codes.specs.CodesLaws.{window-back}
+use Rattle.ticket_codes.specs.Codes.{windowOf, codeOf, hasCode}
+use Rattle.ticket_codes.specs.CodesLaws.{window-back, came-of-code}
 use Rattle.ticket_codes.specs.declared.Coded.{Coded}
 use Rattle.ticket_codes.specs.declared.Coded.the-variants.{Known, Unknown}
 use Rattle.c_lowpass.specs.Lowpass.{lowpassBytes}
@@ -49,22 +49,23 @@ then-fits f n len l = go (eqb (len % 8) 0) (eqb n (len / 8))
     go false b = refl
 
 -- what is read of a designed record, and comes of it
-reads : (f : Lowpass → Designed) (l : Lowpass) (len : ℕ) → thenOf f (readOf (designAs l) len) ≡ fitsIn (l .n) len (f l)
-reads f l len = ap (λ (w : Coded). thenOf f (readIn (designAs l) len w)) (window-back (l .window)) ∙ then-fits f (l .n) len l
+reads : (f : Lowpass → Designed) (l : Lowpass) (len : ℕ) → T (hasCode (l .window)) → thenOf f (readOf (designAs l) len) ≡ fitsIn (l .n) len (f l)
+reads f l len h = ap (λ (w : Coded). thenOf f (readIn (designAs l) len w)) (window-back (l .window) h) ∙ then-fits f (l .n) len l
 
-cutoff-reads : (l : Lowpass) (cutoff rate : Float) (len : ℕ) → cutoffFor (designAs l) cutoff rate len ≡ fitsIn (l .n) len (newCutoffOf l cutoff rate)
+cutoff-reads : (l : Lowpass) (cutoff rate : Float) (len : ℕ) → T (hasCode (l .window)) → cutoffFor (designAs l) cutoff rate len ≡ fitsIn (l .n) len (newCutoffOf l cutoff rate)
 unfolding cutoffFor
-cutoff-reads l cutoff rate len = reads (λ (z : Lowpass). newCutoffOf z cutoff rate) l len
+cutoff-reads l cutoff rate len h = reads (λ (z : Lowpass). newCutoffOf z cutoff rate) l len h
 
-beta-reads : (l : Lowpass) (beta : Float) (len : ℕ) → betaFor (designAs l) beta len ≡ whereKaiser (l .window) (fitsIn (l .n) len (newBetaOf l beta))
+beta-reads : (l : Lowpass) (beta : Float) (len : ℕ) → T (hasCode (l .window)) → betaFor (designAs l) beta len ≡ whereKaiser (l .window) (fitsIn (l .n) len (newBetaOf l beta))
 unfolding betaFor codeOf
-beta-reads l beta len = ap (λ (x : Designed). cond (eqb (codeOf (l .window)) 3) x (Refused (Plain badCode))) (reads (λ (z : Lowpass). newBetaOf z beta) l len) ∙ go (l .window) _
+beta-reads l beta len h = ap (λ (x : Designed). cond (eqb (codeOf (l .window)) 3) x (Refused (Plain badCode))) (reads (λ (z : Lowpass). newBetaOf z beta) l len h) ∙ go (l .window) _
   where
     go : (w : Window) (x : Designed) → cond (eqb (codeOf w) 3) x (Refused (Plain badCode)) ≡ whereKaiser w x
     go Hann x = refl
     go Hamming x = refl
     go Blackman x = refl
     go (Kaiser b) x = refl
+    go (Cosines c) x = refl
 
 -- asked once is asked twice
 kaiser-twice : (w : Window) (n len : ℕ) (x : Designed) → whereKaiser w (fitsIn n len (whereKaiser w x)) ≡ whereKaiser w (fitsIn n len x)
@@ -72,6 +73,7 @@ kaiser-twice Hann n len x = refl
 kaiser-twice Hamming n len x = refl
 kaiser-twice Blackman n len x = refl
 kaiser-twice (Kaiser b) n len x = refl
+kaiser-twice (Cosines c) n len x = refl
 
 -- ---- one call
 -- what comes of an operation on a record, by its export
@@ -95,15 +97,18 @@ same-turn t d o len p = subst (λ (z : Design). comesFor z o len ≡ comesWith t
     shape : l .window ≡ t .window
     shape = ap (λ (z : Lowpass). z .window) made
 
+    coded : T (hasCode (l .window))
+    coded = subst (λ (w : Window). T (hasCode w)) (sym shape) (p .coded)
+
     go : (o : Operation) → comesFor (designAs l) o len ≡ comesWith t o len
     go (NewCutoff cutoff rate) =
         let x = designedFrom (placed t (NewCutoff cutoff rate)) in
-        cutoff-reads l cutoff rate len
+        cutoff-reads l cutoff rate len coded
         ∙ ap (fitsIn (l .n) len) (Lists.turn t l (NewCutoff cutoff rate) (p .from))
         ∙ ap (λ (n : ℕ). fitsIn n len x) count
     go (NewBeta beta) =
         let x = designedFrom (placed t (NewBeta beta)) in
-        beta-reads l beta len
+        beta-reads l beta len coded
         ∙ ap (λ (z : Designed). whereKaiser (l .window) (fitsIn (l .n) len z)) (Lists.turn t l (NewBeta beta) (p .from))
         ∙ ap (λ (w : Window). whereKaiser w (fitsIn (l .n) len (whereKaiser (t .window) x))) shape
         ∙ kaiser-twice (t .window) (l .n) len x
@@ -127,6 +132,12 @@ accepted-is t (NewBeta beta) len m e = go (t .window) e
     go Hamming e = absurd (never (Plain badCode) m e)
     go Blackman e = absurd (never (Plain badCode) m e)
     go (Kaiser b) e = fits-is (t .n) len _ m e
+    go (Cosines c) e = absurd (never (Plain badCode) m e)
+
+-- an operation's numbers have a window with a code, where those before it had
+coded-next : (t : Numbers) (o : Operation) → T (hasCode (t .window)) → T (hasCode (placed t o .window))
+coded-next t (NewCutoff cutoff rate) h = h
+coded-next t (NewBeta beta) h = tt
 
 pub advances : (c : Call) → Tunes (c .kept) (comesFor (c .kept) (c .turn) (length (c .before))) (c .before) (c .answer) (c .after) → Promised c
 advances c h t p =
@@ -134,7 +145,7 @@ advances c h t p =
     record { writes = writes-same (ap outcomeOf e) (h .writes); designed = go (comesWith t (c .turn) (length (c .before))) refl (h .design ∙ ap (afterwards (c .kept)) e) }
   where
     go : (y : Designed) → comesWith t (c .turn) (length (c .before)) ≡ y → c .answer .design ≡ afterwards (c .kept) y → DesignedAs (acceptedIn t (c .turn) y) (c .answer .design)
-    go (Ready m) g q = record { design = m; from = accepted-is t (c .turn) (length (c .before)) m g; is = q }
+    go (Ready m) g q = record { coded = coded-next t (c .turn) (p .coded); design = m; from = accepted-is t (c .turn) (length (c .before)) m g; is = q }
     go (Refused why) g q = subst (DesignedAs t) (sym q) p
 
 -- ---- any list of calls, refused ones included
@@ -164,7 +175,8 @@ pub series-kept : (t : Numbers) (d : Design) (w : Window) → DesignedAs t d →
 series-kept t d w p e =
     let l = p .design in
     let made = ready-is (t .cutoff) (t .rate) (t .window) (t .n) l (p .from) .is in
-    let shape : l .window ≡ w = same-window (l .window) w (sym (window-back (l .window)) ∙ subst (λ (z : Design). windowOf (z .window) (z .beta) ≡ Known w) (p .is) e) in
+    let h = subst (λ (v : Window). T (hasCode v)) (sym (ap (λ (z : Lowpass). z .window) made)) (p .coded) in
+    let shape : l .window ≡ w = same-window (l .window) w (sym (window-back (l .window) h) ∙ subst (λ (z : Design). windowOf (z .window) (z .beta) ≡ Known w) (p .is) e) in
     ap (λ (z : Design). z .series) (p .is) ∙ ap (λ (z : Lowpass). z .i0) made ∙ ap normOf (sym (ap (λ (z : Lowpass). z .window) made) ∙ shape)
   where
     same-window : (v w : Window) → Known v ≡ Known w → v ≡ w
@@ -208,4 +220,4 @@ begins cutoff rate window beta {before} {after} {r} l h w e z =
     let len = length before in
     let a = ready-so (lowpassIn cutoff rate len (windowOf window beta)) l h z in
     let f : lowpassOf cutoff rate w (len / 8) ≡ Ready (a .0) = whole-is len (lowpassOf cutoff rate w (len / 8)) (a .0) (sym (ap (lowpassIn cutoff rate len) e) ∙ a .1) in
-    (record { design = a .0; from = f; is = a .2 }, h .writes .buffer ∙ ap (λ (x : Designed). written floatBytes (outcomeOf x) before) (a .1) ∙ ap (λ (x : Designed). written floatBytes (outcomeOf x) after) (sym f))
+    (record { coded = came-of-code window beta w e; design = a .0; from = f; is = a .2 }, h .writes .buffer ∙ ap (λ (x : Designed). written floatBytes (outcomeOf x) before) (a .1) ∙ ap (λ (x : Designed). written floatBytes (outcomeOf x) after) (sym f))

@@ -22,7 +22,7 @@ pub fn window_of(code: u64, beta: f64) -> Coded
     }
 }
 
-// The code of a window.
+// The code of a window; 4, which is no window's, of a loaded one.
 pub fn code_of(w: Window) -> u64
     ensures { λ r. ⌜ r ≡ codeOf w ⌝ }
 {
@@ -31,6 +31,7 @@ pub fn code_of(w: Window) -> u64
         Window::Hamming => 1,
         Window::Blackman => 2,
         Window::Kaiser(_) => 3,
+        Window::Cosines(_) => 4,
     }
 }
 
@@ -43,5 +44,6 @@ pub fn shape_of(w: Window) -> f64
         Window::Hamming => 0.0,
         Window::Blackman => 0.0,
         Window::Kaiser(beta) => beta,
+        Window::Cosines(_) => 0.0,
     }
 }

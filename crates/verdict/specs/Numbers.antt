@@ -32,6 +32,18 @@ badCount = 6
 abbrev pub badCode : ℕ
 badCode = 7
 
+-- how many coefficients of a window
+abbrev pub badCoefficientCount : ℕ
+badCoefficientCount = 17
+
+-- a coefficient of a window
+abbrev pub badCoefficient : ℕ
+badCoefficient = 18
+
+-- the sum of a window's coefficients
+abbrev pub badCoefficientSum : ℕ
+badCoefficientSum = 19
+
 -- ---- caused by the host program
 -- the buffer's length
 abbrev pub badLength : ℕ
@@ -56,4 +68,4 @@ notSettled = 16
 
 -- ---- all of them
 abbrev pub refusals : List ℕ
-refusals = badRate ∷ badFrequency ∷ badTransition ∷ badAttenuation ∷ badShape ∷ badCount ∷ badCode ∷ badLength ∷ tooManyTaps ∷ badSum ∷ badElement ∷ notSettled ∷ []
+refusals = badRate ∷ badFrequency ∷ badTransition ∷ badAttenuation ∷ badShape ∷ badCount ∷ badCode ∷ badLength ∷ tooManyTaps ∷ badSum ∷ badElement ∷ notSettled ∷ badCoefficientCount ∷ badCoefficient ∷ badCoefficientSum ∷ []

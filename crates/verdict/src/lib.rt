@@ -18,6 +18,12 @@ pub const BAD_SHAPE: u32 = 5;
 pub const BAD_COUNT: u32 = 6;
 // An unknown code, or a response that a Butterworth filter hasn't.
 pub const BAD_CODE: u32 = 7;
+// How many coefficients of a window.
+pub const BAD_COEFFICIENT_COUNT: u32 = 17;
+// A coefficient of a window.
+pub const BAD_COEFFICIENT: u32 = 18;
+// The sum of a window's coefficients.
+pub const BAD_COEFFICIENT_SUM: u32 = 19;
 // Caused by the host program: the buffer's length.
 pub const BAD_LENGTH: u32 = 8;
 // More taps than the cap.

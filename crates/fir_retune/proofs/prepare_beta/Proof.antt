@@ -27,6 +27,9 @@ enum-told-3 c = search needs
 enum-told-4 : tie.Need-enum-told-4
 enum-told-4 c = search needs
 
+enum-told-5 : tie.Need-enum-told-5
+enum-told-5 c = search needs
+
 same-length : tie.Need-same-length
 same-length c = search needs
 
@@ -52,6 +55,10 @@ returns-4 : tie.Need-returns-4
 unfolding newBetaOf
 returns-4 c = prepares-refusal _ _ _ (ap (by-window (c .before .before .before)) (c .enum-told4 .given .1))
 
+returns-5 : tie.Need-returns-5
+unfolding newBetaOf
+returns-5 c = prepares-refusal _ _ _ (ap (by-window (c .before .before .before)) (c .enum-told5 .given .1))
+
 pub prepare-beta-spec : {M : Type 1} → statement M
 prepare-beta-spec =
     tie.close
@@ -61,8 +68,10 @@ prepare-beta-spec =
     enum-told-2
     enum-told-3
     enum-told-4
+    enum-told-5
     same-length
     returns
     returns-2
     returns-3
-    returns-4)
+    returns-4
+    returns-5)

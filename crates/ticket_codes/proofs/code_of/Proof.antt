@@ -17,6 +17,9 @@ enum-told-3 c = search needs
 enum-told-4 : tie.Need-enum-told-4
 enum-told-4 c = search needs
 
+enum-told-5 : tie.Need-enum-told-5
+enum-told-5 c = search needs
+
 returns : tie.Need-returns
 unfolding codeOf
 returns c = sym (rw (c .enum-told .given .1))
@@ -33,6 +36,10 @@ returns-4 : tie.Need-returns-4
 unfolding codeOf
 returns-4 c = sym (rw (c .enum-told4 .given .1))
 
+returns-5 : tie.Need-returns-5
+unfolding codeOf
+returns-5 c = sym (rw (c .enum-told5 .given .1))
+
 pub code-of-spec : {M : Type 1} → statement M
 code-of-spec =
     tie.close
@@ -41,7 +48,9 @@ code-of-spec =
     enum-told-2
     enum-told-3
     enum-told-4
+    enum-told-5
     returns
     returns-2
     returns-3
-    returns-4)
+    returns-4
+    returns-5)

@@ -18,6 +18,9 @@ enum-told-3 c = search needs
 enum-known-w : tie.Need-enum-known-w
 enum-known-w c = search needs
 
+enum-told-4 : tie.Need-enum-told-4
+enum-told-4 c = search needs
+
 returns : tie.Need-returns
 unfolding shapeOf ofInt ofBits
 returns c = sym (rw (c .enum-told .given .1))
@@ -34,6 +37,10 @@ returns-4 : tie.Need-returns-4
 unfolding shapeOf ofInt ofBits
 returns-4 c = sym (rw (c .before .w .given .1))
 
+returns-5 : tie.Need-returns-5
+unfolding shapeOf ofInt ofBits
+returns-5 c = sym (rw (c .enum-told4 .given .1))
+
 pub shape-of-spec : {M : Type 1} → statement M
 shape-of-spec =
     tie.close
@@ -42,7 +49,9 @@ shape-of-spec =
     enum-told-2
     enum-told-3
     enum-known-w
+    enum-told-4
     returns
     returns-2
     returns-3
-    returns-4)
+    returns-4
+    returns-5)

@@ -23,6 +23,9 @@ sub-settles c = search needs
 settles-requires : tie.Need-settles-requires
 settles-requires c κs = search needs
 
+enum-told-4 : tie.Need-enum-told-4
+enum-told-4 c = search needs
+
 returns : tie.Need-returns
 unfolding seriesSettle
 returns c = sym (rw (c .enum-told .given .1))
@@ -39,6 +42,10 @@ returns-4 : tie.Need-returns-4
 unfolding seriesSettle
 returns-4 c = c .settles .ensures ∙ sym (rw (c .before .before .w .given .1))
 
+returns-5 : tie.Need-returns-5
+unfolding seriesSettle
+returns-5 c = sym (rw (c .enum-told4 .given .1))
+
 pub series-settle-spec : {M : Type 1} → statement M
 series-settle-spec =
     tie.close
@@ -49,7 +56,9 @@ series-settle-spec =
     enum-known-w
     sub-settles
     settles-requires
+    enum-told-4
     returns
     returns-2
     returns-3
-    returns-4)
+    returns-4
+    returns-5)

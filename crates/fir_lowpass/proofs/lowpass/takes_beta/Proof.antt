@@ -21,6 +21,9 @@ enum-known-w c = search needs
 is-finite-requires : tie.Need-is-finite-requires
 is-finite-requires c κs = search needs
 
+enum-told-4 : tie.Need-enum-told-4
+enum-told-4 c = search needs
+
 returns : tie.Need-returns
 unfolding betaTaken
 returns c = sym (rw (c .enum-told .given .1))
@@ -41,6 +44,10 @@ returns-5 : tie.Need-returns-5
 unfolding betaTaken
 returns-5 c = c .if1 .left ∙ sym (rw (c .before .before .before .w .given .1, sym (c .before .is-finite .ensures) ∙ c .if1 .left))
 
+returns-6 : tie.Need-returns-6
+unfolding betaTaken
+returns-6 c = sym (rw (c .enum-told4 .given .1))
+
 pub takes-beta-spec : {M : Type 1} → statement M
 takes-beta-spec =
     tie.close
@@ -50,8 +57,10 @@ takes-beta-spec =
     enum-told-3
     enum-known-w
     is-finite-requires
+    enum-told-4
     returns
     returns-2
     returns-3
     returns-4
-    returns-5)
+    returns-5
+    returns-6)

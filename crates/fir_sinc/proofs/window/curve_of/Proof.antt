@@ -17,6 +17,9 @@ enum-told-3 c = search needs
 enum-known-w : tie.Need-enum-known-w
 enum-known-w c = search needs
 
+enum-told-4 : tie.Need-enum-told-4
+enum-told-4 c = search needs
+
 returns : tie.Need-returns
 unfolding curveOf
 returns c = sym (rw (c .enum-told .given .1))
@@ -33,7 +36,21 @@ returns-4 : tie.Need-returns-4
 unfolding curveOf
 returns-4 c = sym (rw (c .before .w .given .1))
 
+returns-5 : tie.Need-returns-5
+unfolding curveOf
+returns-5 c = sym (rw (c .enum-told4 .given .1))
+
 pub curve-of-spec : {M : Type 1} → statement M
 curve-of-spec =
     tie.close
-    (tie.spec enum-told enum-told-2 enum-told-3 enum-known-w returns returns-2 returns-3 returns-4)
+    (tie.spec
+    enum-told
+    enum-told-2
+    enum-told-3
+    enum-known-w
+    enum-told-4
+    returns
+    returns-2
+    returns-3
+    returns-4
+    returns-5)

@@ -29,6 +29,12 @@ enum-told-4 c = search needs
 value-requires : tie.Need-value-requires
 value-requires c κs = search needs
 
+enum-known-w : tie.Need-enum-known-w
+enum-known-w c = search needs
+
+sum-of-requires : tie.Need-sum-of-requires
+sum-of-requires c κs = search needs
+
 returns : tie.Need-returns
 unfolding valueOf
 returns c = c .hann .ensures ∙ sym (rw (c .before .enum-told .given .1))
@@ -45,6 +51,10 @@ returns-4 : tie.Need-returns-4
 unfolding valueOf
 returns-4 c = c .value .ensures ∙ sym (rw (c .before .enum-told4 .given .1))
 
+returns-5 : tie.Need-returns-5
+unfolding valueOf
+returns-5 c = c .sum-of .ensures ∙ sym (rw (c .before .before .w .given .1))
+
 pub value-of-spec : {M : Type 1} → statement M
 value-of-spec =
     tie.close
@@ -57,7 +67,11 @@ value-of-spec =
     blackman-requires
     enum-told-4
     value-requires
+    enum-known-w
+    sum-of-requires
     returns
     returns-2
     returns-3
-    returns-4)
+    returns-4
+    returns-5)
+
