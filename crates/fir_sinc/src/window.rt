@@ -69,15 +69,27 @@ fn value_of(w: Window, i0: f64, x: f64) -> f64
     }
 }
 
-// The windows of two such taps.
+// The windows of two such taps, each arm written out: the loop over the taps is quickest so.
 pub(crate) fn values_of(w: Window, i0: f64, x: f64, y: f64) -> Pair
     ensures { λ r. ⌜ r .first ≡ valueOf w i0 x ⌝ ∗ ⌜ r .second ≡ valueOf w i0 y ⌝ }
 {
     match w {
+        Window::Hann => Pair {
+            first: cosines::hann(x),
+            second: cosines::hann(y),
+        },
+        Window::Hamming => Pair {
+            first: cosines::hamming(x),
+            second: cosines::hamming(y),
+        },
+        Window::Blackman => Pair {
+            first: cosines::blackman(x),
+            second: cosines::blackman(y),
+        },
         Window::Kaiser(_) => kaiser::values(i0, x, y),
-        _ => Pair {
-            first: value_of(w, i0, x),
-            second: value_of(w, i0, y),
+        Window::Cosines(c) => Pair {
+            first: cosines::sum_of(c, x),
+            second: cosines::sum_of(c, y),
         },
     }
 }
