@@ -1,3 +1,4 @@
 pub mod Finite
 pub mod Zeros
 pub mod Angle
+pub mod Builtins
