@@ -24,10 +24,10 @@ unfoldable pub loadBytes : List ℕ → Loading
 loadBytes s = let m = length s in cond (eqb (m % 8) 0) (loadOf (numbersIn s)) (Loading.Refused (Length (m - m % 8) m))
 
 -- the window in place of one that was refused: five zeros
-abbrev pub none : Cosines
-none = record { c0 = whole 0; c1 = whole 0; c2 = whole 0; c3 = whole 0; c4 = whole 0 }
+abbrev pub zeros : Cosines
+zeros = record { c0 = whole 0; c1 = whole 0; c2 = whole 0; c3 = whole 0; c4 = whole 0 }
 
 -- what is answered where n numbers were given
 abbrev pub answerOf : ℕ → Loading → Loaded
 answerOf n (Loading.Loaded c) = record { window = c; report = acceptedOf n (whole 0) }
-answerOf n (Loading.Refused why) = record { window = none; report = reportOf why }
+answerOf n (Loading.Refused why) = record { window = zeros; report = reportOf why }

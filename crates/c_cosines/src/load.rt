@@ -41,7 +41,11 @@ fn float_at(src: &[u8], i: usize) -> f64
 fn number_at(src: &[u8], i: usize) -> f64
     ensures { λ r. ⌜ r ≡ getD (numbersIn (now (src .entry))) i (whole 0) ⌝ }
 {
-    if i < src.len() / 8 { float_at(src, i) } else { 0.0 }
+    if i < src.len() / 8 {
+        float_at(src, i)
+    } else {
+        0.0
+    }
 }
 
 // What is answered where n numbers were given.
@@ -78,7 +82,10 @@ pub extern "C" fn pel_load_cosines(src: &[u8]) -> Loaded
 {
     let len = src.len() as u64;
     if len % 8 != 0 {
-        return answer(len / 8, Loading::Refused(Refusal::Length(len - len % 8, len)));
+        return answer(
+            len / 8,
+            Loading::Refused(Refusal::Length(len - len % 8, len)),
+        );
     }
     let numbers = Cosines {
         c0: number_at(src, 0),

@@ -2,6 +2,7 @@
 // promise that no longer follows from an export's own contract is refused here.
 pub mod coefficients;
 pub mod conversions;
+pub mod cosines;
 pub mod designs;
 pub mod filters;
 pub mod judgements;

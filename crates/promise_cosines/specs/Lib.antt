@@ -2,3 +2,5 @@ pub mod Finite
 pub mod Zeros
 pub mod Angle
 pub mod Builtins
+pub mod Loaded
+pub mod LoadedLaws

@@ -1,1 +1,2 @@
-// No code: that the cosines of a window's taps are finite, and that a cosine whose coefficient is 0 may be left out.
+// No code: a Hann, Hamming or Blackman window that is loaded by its numbers is accepted, and a low-pass with it is the
+// one with the built-in window, to the bit.

@@ -19,9 +19,13 @@ use Rattle.verdict.specs.declared.Report.{Report}
 use Rattle.verdict.specs.declared.Verdict.{Verdict}
 use Rattle.verdict.specs.declared.Verdict.the-variants.{Done}
 use Rattle.wire.specs.Bytes.{floatAt}
+use Rattle.win_cosines.specs.Load.{cosinesOf}
+use Rattle.c_cosines.specs.Loads.{numbersIn, loadBytes, zeros}
+use Rattle.c_cosines.specs.declared.load.Loaded.{Loaded}
 use Rattle.c_formats.specs.declared.element.Format.{Format}
 use Rattle.c_formats.specs.Formats.{widthOf, takesOf, outsideOf, bytesIn}
 use Rattle.c_formats.specs.Conversions.{floats, lengthsOf}
+use Rattle.promise_refusals.specs.Verdicts.{ofLoading}
 
 -- ---- the number
 -- one of a list
@@ -52,6 +56,13 @@ pub record FilledOrKept (bytes : Float → List ℕ) (o : Outcome) (before : Lis
   pub kept : (r .number ≡ 0 → ⊥) → after ≡ before
   -- it is the same buffer, so that what fills it leaves no byte
   pub size : length after ≡ length before
+
+-- ---- a window of cosines loaded from the bytes s
+-- "filled completely", its numbers and 0 for those not given, or refused with five zeros
+pub record LoadedOrNone (s : List ℕ) (r : Loaded) : Type 0 where
+  pub told : Numbered (ofLoading (loadBytes s)) (r .report .number)
+  pub loaded : r .report .number ≡ 0 → r .window ≡ cosinesOf (numbersIn s)
+  pub none : (r .report .number ≡ 0 → ⊥) → r .window ≡ zeros
 
 -- ---- a conversion of the f64s in the bytes s to the format f, of which g belong together
 -- element i of the source

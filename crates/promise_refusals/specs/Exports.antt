@@ -1,8 +1,9 @@
 -- Every refusal of each export has one of the refusals' numbers: the judgements, with codes and byte lengths before
 -- them. Assumes nothing.
-use Prim.Native.Nat.{ℕ, _/_}
+use Prim.Native.Nat.{ℕ, _/_, _%_}
 use mathlib.Core.List.{List}
 use lib.Dec.{eqb}
+use lib.ListN.{length}
 use lib.Ieee.{Float}
 use Rattle.laws.specs.Binary64.{whole}
 use Rattle.laws.specs.Cases.{either-way}
@@ -32,6 +33,8 @@ use Rattle.ticket_codes.specs.declared.Coded.the-variants as Window
 use Rattle.c_retune.specs.Designs.{lowpassFor, cutoffFor, betaFor}
 use Rattle.c_retune.specs.DesignsLaws.{lowpass-has, cutoff-has, beta-has}
 use Rattle.c_retune.specs.declared.record.Design.{Design}
+use Rattle.win_cosines.specs.declared.Loading.{Loading}
+use Rattle.c_cosines.specs.Loads.{numbersIn, loadBytes}
 use Rattle.c_pulses.specs.Buffers.{halfbandBytes, gaussianBytes, rrcBytes}
 use Rattle.c_sections.specs.Numbers.{numbersOf, biquadBytes, preemphasisBytes, butterworthBytes}
 use Rattle.c_sections.specs.declared.codes.Coded as ResponseCode
@@ -41,8 +44,9 @@ use Rattle.c_windows.specs.declared.codes.Coded as SymmetryCode
 use Rattle.c_windows.specs.declared.codes.Coded.the-variants as Symmetry
 use Rattle.c_windows.specs.declared.sample.Sample.{Sample}
 use Rattle.promise_refusals.specs.Demand.{listed}
+use Rattle.promise_refusals.specs.Verdicts.{ofLoading}
 use Rattle.promise_refusals.specs.Listed.{Listed}
-use Rattle.promise_refusals.specs.Judgements.{whole-listed, with-listed, lowpass-listed, spec-design-listed, halfband-listed, gaussian-listed, gaussian-fitted-listed, rrc-listed, rrc-fitted-listed, channelizer-listed, channelizer-fitted-listed, biquad-listed, preemphasis-listed, butterworth-listed, window-listed, where-listed}
+use Rattle.promise_refusals.specs.Judgements.{whole-listed, with-listed, lowpass-listed, spec-design-listed, halfband-listed, gaussian-listed, gaussian-fitted-listed, rrc-listed, rrc-fitted-listed, channelizer-listed, channelizer-fitted-listed, biquad-listed, preemphasis-listed, butterworth-listed, load-listed, window-listed, where-listed}
 
 -- ---- the low-pass, by the window's code
 pub lowpass-coded : (cutoff rate : Float) (c : WindowCode.Coded) (n : ℕ) → Listed (answered (Lowpass.outcomeOf (lowpassCoded cutoff rate c n)))
@@ -76,6 +80,11 @@ design-cutoff d cutoff rate len = cutoff-has DesignListed tt (λ a b. tt) d cuto
 pub design-beta : (d : Design) (beta : Float) (len : ℕ) → DesignListed (betaFor d beta len)
 unfolding reportOf listed
 design-beta d beta len = beta-has DesignListed tt (λ a b. tt) d beta len (λ fc n. lowpass-listed fc (whole 1) (Kaiser beta) n)
+
+-- ---- a window of cosines that is loaded
+pub load-bytes : (s : List ℕ) → Listed (ofLoading (loadBytes s))
+unfolding loadBytes reportOf listed
+load-bytes s = either-way (λ (l : Loading). Listed (ofLoading l)) (eqb (length s % 8) 0) _ _ (load-listed (numbersIn s)) tt
 
 -- ---- the half-band and the pulses
 pub halfband-bytes : (beta : Float) (len : ℕ) → Listed (answered (halfbandBytes beta len))

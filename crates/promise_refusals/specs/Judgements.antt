@@ -1,8 +1,9 @@
 -- Every refusal that a ticket can come to has one of the refusals' numbers: of each judgement, whatever its numbers are.
 -- Assumes nothing.
 use Prim.Native.Nat.{ℕ, zero, suc, _-_, _*_, _/_, _%_}
-use mathlib.Core.List.{List}
-use lib.Dec.{eqb, ltb}
+use mathlib.Core.Bool.{_&&_}
+use mathlib.Core.List.{List, [], _∷_}
+use lib.Dec.{eqb, ltb, leb}
 use lib.ListN.{length, getD}
 use lib.Ieee.{Float, nan, lt}
 use lib.Ieee.Scale.{finite}
@@ -10,6 +11,7 @@ use Rattle.laws.specs.Binary64.{_⊕_, _⊖_, _⊗_, _⊘_, whole, fraction}
 use Rattle.laws.specs.Cases.{either-way}
 use Rattle.laws.specs.Prefix.{firstBad}
 use Rattle.math_numbers.specs.Numbers.{positive}
+use Rattle.math_unity.specs.Unity.{within, nearOne}
 use Rattle.math_round.specs.Whole.{absOf}
 use Rattle.verdict.specs.Report.{reportOf}
 use Rattle.verdict.specs.Outcome.{Outcome, answered, wherePassed}
@@ -57,12 +59,15 @@ use Rattle.iir_biquad.specs.declared.biquad.Biquad.{Biquad}
 use Rattle.iir_biquad.specs.declared.biquad.Response.{Response}
 use Rattle.iir_biquad.specs.declared.preemphasis.Preemphasis.{Preemphasis}
 use Rattle.iir_butterworth.specs.Butterworth.{responseTaken, orderTaken, sectionsOf, butterworthOf}
+use Rattle.win_cosines.specs.Load.{numbersTaken, loadOf}
+use Rattle.win_cosines.specs.Load as Load
+use Rattle.win_cosines.specs.declared.Loading.{Loading}
 use Rattle.c_formats.specs.declared.element.Format.{Format}
 use Rattle.c_formats.specs.declared.element.Format.the-variants as Format
 use Rattle.c_formats.specs.Formats.{takesOf, outsideOf}
 use Rattle.c_formats.specs.Conversions.{lengthsOf}
 use Rattle.promise_refusals.specs.Demand.{listed}
-use Rattle.promise_refusals.specs.Verdicts.{ofLength, ofOrder, ofDelay, ofCoded, ofSeries, ofSamples}
+use Rattle.promise_refusals.specs.Verdicts.{ofLength, ofOrder, ofDelay, ofCoded, ofLoading, ofSeries, ofSamples}
 use Rattle.promise_refusals.specs.Listed.{Listed}
 
 -- ---- a length of elements of w bytes
@@ -309,6 +314,25 @@ window-listed shape symmetry n =
 pub where-listed : (v : Verdict) (o : Outcome) → Listed v → Listed (answered o) → Listed (answered (wherePassed v o))
 where-listed Done o l x = x
 where-listed (Refused why) o l x = l
+
+-- ---- a window of cosines that is loaded
+numbers-listed : (cs : List Float) → Listed (numbersTaken cs)
+unfolding numbersTaken reportOf listed
+numbers-listed [] = tt
+numbers-listed (x ∷ xs) = either-way Listed (within x) _ _ (numbers-listed xs) tt
+
+abbrev LoadListed : Loading → Type 0
+LoadListed l = Listed (ofLoading l)
+
+load-passed : (v : Verdict) (l : Loading) → Listed v → LoadListed l → LoadListed (Load.wherePassed v l)
+load-passed Done l x y = y
+load-passed (Refused why) l x y = x
+
+pub load-listed : (cs : List Float) → LoadListed (loadOf cs)
+unfolding loadOf reportOf listed
+load-listed cs =
+    let way = either-way LoadListed in
+    way (leb 1 (length cs) && leb (length cs) 5) _ _ (load-passed (numbersTaken cs) _ (numbers-listed cs) (way (nearOne cs) _ _ tt tt)) tt
 
 -- ---- the series, and a window's gain
 pub series-listed : (s : Series) → Listed (ofSeries s)

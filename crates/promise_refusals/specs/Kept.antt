@@ -29,13 +29,21 @@ use Rattle.verdict.specs.declared.Verdict.the-variants.{Done, Refused}
 use Rattle.wire.specs.Bytes.{floatAt}
 use Rattle.wire.specs.Laws.{length-bytes}
 use Rattle.wire.specs.Writes.{written, Writes}
+use Rattle.win_cosines.specs.Load.{cosinesOf}
+use Rattle.win_cosines.specs.declared.Loading.{Loading}
+use Rattle.win_cosines.specs.declared.Loading.the-variants as Loading
+use Rattle.c_cosines.specs.Loads.{numbersIn, loadBytes, zeros, answerOf}
+use Rattle.c_cosines.specs.LoadsLaws.{bytes-these}
+use Rattle.c_cosines.specs.declared.load.Loaded.{Loaded}
 use Rattle.c_formats.specs.declared.element.Format.{Format}
 use Rattle.c_formats.specs.declared.element.Format.the-variants as Format
 use Rattle.c_formats.specs.Formats.{widthOf, takesOf, patternOf, outsideOf, bytesIn}
 use Rattle.c_formats.specs.Conversions.{floats, lengthsOf, storedOf, ConvertsBytes}
 use Rattle.c_formats.specs.ConversionLaws.{right-lengths, count}
-use Rattle.promise_refusals.specs.Demand.{Numbered, Filled, FilledOrKept, elementAt, StopsAt, ConvertedOrKept}
-use Rattle.promise_refusals.specs.Listed.{Listed, never-zero, numbered, outcome-heard, done-heard}
+use Rattle.promise_refusals.specs.Demand.{Numbered, Filled, FilledOrKept, LoadedOrNone, elementAt, StopsAt, ConvertedOrKept}
+use Rattle.promise_refusals.specs.Verdicts.{ofLoading}
+use Rattle.promise_refusals.specs.Listed.{Listed, never-zero, numbered, outcome-heard, done-heard, loading-heard}
+use Rattle.promise_refusals.specs.Exports.{load-bytes}
 use Rattle.promise_refusals.specs.Judgements.{lengths-listed, taken-listed, then-listed}
 
 -- ---- a design
@@ -58,6 +66,23 @@ filled-or-kept {bytes} {o} {before} {after} {r} l w size =
       kept = λ h. w .buffer ∙ where-not bytes before o (λ e. h (told ∙ e));
       size = size;
     }
+
+-- ---- a window of cosines that is loaded
+pub loaded-or-none : (s : List ℕ) {r : Loaded} → r ≡ answerOf (length s / 8) (loadBytes s) → LoadedOrNone s r
+unfolding acceptedOf
+loaded-or-none s {r} e = subst (LoadedOrNone s) (sym e) (record {
+  told = numbered (ofLoading (loadBytes s)) (loading-heard (length s / 8) (loadBytes s)) (load-bytes s);
+  loaded = these (loadBytes s) refl;
+  none = zeroed (loadBytes s) (load-bytes s);
+})
+  where
+    these : (l : Loading) → loadBytes s ≡ l → answerOf (length s / 8) l .report .number ≡ 0 → answerOf (length s / 8) l .window ≡ cosinesOf (numbersIn s)
+    these (Loading.Loaded c) g z = bytes-these s c g
+    these (Loading.Refused why) g z = absurd (never-zero (reportOf why .number) (subst (λ (l : Loading). Listed (ofLoading l)) g (load-bytes s)) z)
+
+    zeroed : (l : Loading) → Listed (ofLoading l) → (answerOf (length s / 8) l .report .number ≡ 0 → ⊥) → answerOf (length s / 8) l .window ≡ zeros
+    zeroed (Loading.Loaded c) x h = absurd (h refl)
+    zeroed (Loading.Refused why) x h = refl
 
 -- ---- a conversion: it ends in one of three ways
 -- what an accepted one tells: each f64 of its source is taken, and its bytes are those of every element, the first one

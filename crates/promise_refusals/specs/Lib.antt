@@ -1,5 +1,5 @@
-pub mod Demand
 pub mod Verdicts
+pub mod Demand
 pub mod Listed
 pub mod Judgements
 pub mod Exports

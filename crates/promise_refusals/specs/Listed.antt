@@ -1,4 +1,4 @@
--- The refusals' numbers are 1 to 11 and 16, and what a caller hears of a verdict whose refusal has one of them is what
+-- The refusals' numbers are 1 to 11 and 16 to 19, and what a caller hears of a verdict whose refusal has one of them is what
 -- demand 1 says. Assumes nothing.
 use Prim.Native.Nat.{ℕ, _-_, _%_, _≤_}
 use mathlib.Core.Path.{_≡_, refl, sym, _∙_, subst}
@@ -29,12 +29,15 @@ use Rattle.fir_delay.specs.declared.Delayed.{Delayed}
 use Rattle.fir_delay.specs.declared.Delayed.the-variants as Delayed
 use Rattle.fmt_q15.specs.declared.q15.Coded.{Coded}
 use Rattle.fmt_q15.specs.declared.q15.Coded.the-variants as Coded
+use Rattle.win_cosines.specs.declared.Loading.{Loading}
+use Rattle.win_cosines.specs.declared.Loading.the-variants as Loading
 use Rattle.math_bessel.specs.declared.Series.{Series}
 use Rattle.c_math.specs.Reports.{orderReport, delayReport, codedReport, unsettledOf, seriesReport}
+use Rattle.c_cosines.specs.Loads.{answerOf}
 use Rattle.c_gain.specs.Level.{gainReport}
 use Rattle.c_gain.specs.declared.level.GainReport.{GainReport}
 use Rattle.promise_refusals.specs.Demand.{listed, IsRefusal, Numbered}
-use Rattle.promise_refusals.specs.Verdicts.{ofLength, ofOrder, ofDelay, ofCoded, ofSeries, ofSamples}
+use Rattle.promise_refusals.specs.Verdicts.{ofLength, ofOrder, ofDelay, ofCoded, ofLoading, ofSeries, ofSamples}
 
 -- ---- the list
 unfoldable every : (ℕ → Bool) → List ℕ → Bool
@@ -52,23 +55,26 @@ one-of p k (n ∷ ns) h l = go (eqb k n) (eqb-true k n) (λ m. one-of p k ns (an
     go false e rest l = rest l
 
 abbrev isKnown : ℕ → Bool
-isKnown k = (leb 1 k && leb k 11) || eqb k 16
+isKnown k = (leb 1 k && leb k 11) || (leb 16 k && leb k 19)
 
 all-known : T (every isKnown refusals)
 unfolding every
 all-known = tt
 
--- "1 to 11", and 16
-pub between : (k : ℕ) → IsRefusal k → ((1 ≤ k) × (k ≤ 11)) ⊎ (k ≡ 16)
-between k l = go (leb 1 k) (leb k 11) (leb-true 1 k) (leb-true k 11) (one-of isKnown k refusals all-known l)
+-- a to b
+within : (a b k : ℕ) → T (leb a k && leb k b) → (a ≤ k) × (k ≤ b)
+within a b k h = (leb-true a k (is-true (leb a k) (and-l (leb a k) (leb k b) h)), leb-true k b (is-true (leb k b) (and-r (leb a k) (leb k b) h)))
+
+-- "1 to 11", and 16 to 19
+pub between : (k : ℕ) → IsRefusal k → ((1 ≤ k) × (k ≤ 11)) ⊎ ((16 ≤ k) × (k ≤ 19))
+between k l = go (leb 1 k && leb k 11) (within 1 11 k) (one-of isKnown k refusals all-known l)
   where
-    go : (a b : Bool) → (a ≡ true → 1 ≤ k) → (b ≡ true → k ≤ 11) → T ((a && b) || eqb k 16) → ((1 ≤ k) × (k ≤ 11)) ⊎ (k ≡ 16)
-    go true true f g h = inl (f refl, g refl)
-    go true false f g h = inr (eqb-true k 16 (is-true (eqb k 16) h))
-    go false b f g h = inr (eqb-true k 16 (is-true (eqb k 16) h))
+    go : (b : Bool) → (T b → (1 ≤ k) × (k ≤ 11)) → T (b || (leb 16 k && leb k 19)) → ((1 ≤ k) × (k ≤ 11)) ⊎ ((16 ≤ k) × (k ≤ 19))
+    go true f h = inl (f tt)
+    go false f h = inr (within 16 19 k h)
 
 pub never-zero : (k : ℕ) → IsRefusal k → k ≡ 0 → ⊥
-never-zero k l e = either (between k l) (λ r. omega (arith, r .0, e)) (λ r. omega (arith, r, e))
+never-zero k l e = either (between k l) (λ r. omega (arith, r .0, e)) (λ r. omega (arith, r .0, e))
 
 -- ---- a verdict
 -- the number that its caller hears
@@ -92,8 +98,8 @@ numbered (Refused why) {k} e l = record {
   only = λ z. absurd (never-zero (reportOf why .number) l (sym e ∙ z));
 }
 
--- "the number is 0 or one of 1 to 11", or 16
-pub zero-or-between : {v : Verdict} {k : ℕ} → Numbered v k → (k ≡ 0) ⊎ (((1 ≤ k) × (k ≤ 11)) ⊎ (k ≡ 16))
+-- "the number is 0 or one of 1 to 11", or 16 to 19
+pub zero-or-between : {v : Verdict} {k : ℕ} → Numbered v k → (k ≡ 0) ⊎ (((1 ≤ k) × (k ≤ 11)) ⊎ ((16 ≤ k) × (k ≤ 19)))
 zero-or-between {v} {k} n = either (n .number) (λ e. inl e) (λ l. inr (between k l))
 
 -- ---- what is told of each kind of answer
@@ -126,6 +132,11 @@ pub coded-heard : (c : Coded) → codedReport c .number ≡ heard (ofCoded c)
 unfolding acceptedOf
 coded-heard (Coded.Number q) = refl
 coded-heard (Coded.Refused why) = refl
+
+pub loading-heard : (n : ℕ) (l : Loading) → answerOf n l .report .number ≡ heard (ofLoading l)
+unfolding acceptedOf
+loading-heard n (Loading.Loaded c) = refl
+loading-heard n (Loading.Refused why) = refl
 
 pub series-heard : (s : Series) → seriesReport s .number ≡ heard (ofSeries s)
 unfolding acceptedOf reportOf

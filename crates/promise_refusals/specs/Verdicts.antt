@@ -18,6 +18,8 @@ use Rattle.fir_delay.specs.declared.Delayed.{Delayed}
 use Rattle.fir_delay.specs.declared.Delayed.the-variants as Delayed
 use Rattle.fmt_q15.specs.declared.q15.Coded.{Coded}
 use Rattle.fmt_q15.specs.declared.q15.Coded.the-variants as Coded
+use Rattle.win_cosines.specs.declared.Loading.{Loading}
+use Rattle.win_cosines.specs.declared.Loading.the-variants as Loading
 
 -- (of a design: `answered` in verdict/specs/Outcome)
 abbrev pub ofLength : Length → Verdict
@@ -35,6 +37,10 @@ ofDelay (Delayed.Refused why) = Refused why
 abbrev pub ofCoded : Coded → Verdict
 ofCoded (Coded.Number q) = Done
 ofCoded (Coded.Refused why) = Refused why
+
+abbrev pub ofLoading : Loading → Verdict
+ofLoading (Loading.Loaded c) = Done
+ofLoading (Loading.Refused why) = Refused why
 
 abbrev pub ofSeries : Series → Verdict
 ofSeries s = cond (s .settled) Done (Refused (Refusal.Plain notSettled))

@@ -37,7 +37,7 @@ use Rattle.c_formats.specs.declared.element.Format.the-variants.{Q15}
 use Rattle.c_formats.specs.Formats.{widthOf, takesOf, patternOf, outsideOf}
 use Rattle.c_formats.specs.Conversions.{floats, lengthsOf, ConvertsBytes}
 use Rattle.c_formats.specs.ConversionLaws.{whole-elements}
-use Rattle.ticket_codes.specs.Codes.{windowOf}
+use Rattle.ticket_codes.specs.declared.Coded.{Coded}
 use Rattle.c_lowpass.specs.Lowpass.{lowpassBytes}
 use Rattle.c_lowpass.specs.Prototype.{channelizerBytes}
 use Rattle.c_lowpass.specs.Spec.{specBytes}
@@ -142,9 +142,9 @@ conversion-accepted n s out codes c v long room a =
 
 -- ---- of each export and `pel_to_q15`: `Writes` is what the one ensures, `ConvertsBytes Q15 1` what the other does
 module _ {before taps out codes : List ℕ} {r c : Report} where
-  -- `pel_lowpass`
-  pub lowpass-filter : (cutoff rate : Float) (code : ℕ) (beta : Float) → Writes floatBytes (lowpassBytes cutoff rate (windowOf code beta) (length before)) before r taps → ConvertsBytes Q15 1 taps out c codes → Filters r taps c codes
-  lowpass-filter cutoff rate code beta w v = filter-total (lowpass-written cutoff rate code beta before taps r w) (whole-taps (lowpass-bytes-sound cutoff rate (windowOf code beta) (length before)) w) v
+  -- `pel_lowpass` and `pel_lowpass_cosines`
+  pub lowpass-filter : (cutoff rate : Float) (w : Coded) → Writes floatBytes (lowpassBytes cutoff rate w (length before)) before r taps → ConvertsBytes Q15 1 taps out c codes → Filters r taps c codes
+  lowpass-filter cutoff rate w h v = filter-total (lowpass-written cutoff rate w before taps r h) (whole-taps (lowpass-bytes-sound cutoff rate w (length before)) h) v
 
   -- `pel_spec_design`
   pub spec-filter : (spec : DesignSpec) (rate : Float) (m : ℕ) → Writes floatBytes (specBytes spec rate m (length before)) before r taps → ConvertsBytes Q15 1 taps out c codes → Filters r taps c codes

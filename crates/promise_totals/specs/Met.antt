@@ -34,7 +34,8 @@ use Rattle.verdict.specs.declared.Verdict.{Verdict}
 use Rattle.verdict.specs.Outcome.{Outcome, Fills}
 use Rattle.verdict.specs.Outcome as Outcome
 use Rattle.fir_sinc.specs.Windows.{windowAt, normOf}
-use Rattle.fir_sinc.specs.declared.window.Window.the-variants.{Hann}
+use Rattle.win_cosines.specs.Load.{cosinesOf}
+use Rattle.fir_sinc.specs.declared.window.Window.the-variants.{Hann, Cosines}
 use Rattle.fir_lowpass.specs.LowpassLaws.{lowpass-count}
 use Rattle.fir_spec.specs.SpecLaws.{spec-count}
 use Rattle.fir_gaussian.specs.GaussianLaws.{gaussian-count}
@@ -47,6 +48,8 @@ use Rattle.fir_channelizer.specs.Channelizer as Channelizer
 use Rattle.c_formats.specs.declared.element.Format.the-variants.{Q15}
 use Rattle.c_formats.specs.Conversions.{ConvertsBytes}
 use Rattle.ticket_codes.specs.Codes.{windowOf}
+use Rattle.ticket_codes.specs.declared.Coded.{Coded}
+use Rattle.ticket_codes.specs.declared.Coded.the-variants.{Known}
 use Rattle.c_lowpass.specs.Lowpass.{lowpassBytes}
 use Rattle.c_lowpass.specs.Prototype.{channelizerBytes}
 use Rattle.c_pulses.specs.Buffers.{halfbandBytes, gaussianBytes}
@@ -161,7 +164,23 @@ lowpass-met = tt
 pub lowpass-stands : (before : List ℕ) → length before ≡ 40 → Stands (lowpassTicket (length before)) before
 lowpass-stands before e =
     stands _ before (lowpass-bytes-sound (fraction 1 4) (whole 1) (windowOf 0 (whole 0)) (length before)) (of-size lowpassTicket 40 before e lowpass-met)
-    (lowpass-written (fraction 1 4) (whole 1) 0 (whole 0) before _ _ itself)
+    (lowpass-written (fraction 1 4) (whole 1) (windowOf 0 (whole 0)) before _ _ itself)
+
+-- Blackman and Harris's window, loaded: in 40 bytes 5 taps
+abbrev pub harrisLoaded : Coded
+harrisLoaded = Known (Cosines (cosinesOf (fraction 35875 100000 ∷ fraction 48829 100000 ∷ fraction 14128 100000 ∷ fraction 1168 100000 ∷ [])))
+
+abbrev pub cosinesTicket : ℕ → Outcome
+cosinesTicket len = lowpassBytes (fraction 1 4) (whole 1) harrisLoaded len
+
+pub cosines-met : T (met (cosinesTicket 40))
+unfolding met all tabulate takes moved Lowpass.lowpassOf Lowpass.tapOf windowAt normOf sinOf cosOf sumTo fact over positive floorOf absOf asFloat floorZ ofBits ofInt round add sub mul div lt le ne
+cosines-met = tt
+
+pub cosines-stands : (before : List ℕ) → length before ≡ 40 → Stands (cosinesTicket (length before)) before
+cosines-stands before e =
+    stands _ before (lowpass-bytes-sound (fraction 1 4) (whole 1) harrisLoaded (length before)) (of-size cosinesTicket 40 before e cosines-met)
+    (lowpass-written (fraction 1 4) (whole 1) harrisLoaded before _ _ itself)
 
 -- cutoff 0.25, transition 0.5, 8 dB at the rate 1, at most 3 taps: in 24 bytes 3 taps, beta 0
 abbrev pub specTicket : ℕ → Outcome

@@ -11,7 +11,7 @@ use lib.Ieee.Scale.{finite}
 use Rattle.laws.specs.Filled.{tabulate, tabulate-below, length-tabulate, getD-tabulate}
 use Rattle.laws.specs.SumError.{Each}
 use Rattle.verdict.specs.Counted.{Counted}
-use Rattle.verdict.specs.Outcome.{Outcome, Fills}
+use Rattle.verdict.specs.Outcome.{Outcome, Fills, Agrees}
 use Rattle.verdict.specs.Outcome as Outcome
 use Rattle.verdict.specs.declared.Refusal.{Refusal}
 use Rattle.verdict.specs.declared.Verdict.{Verdict}
@@ -31,7 +31,7 @@ use Rattle.fir_gaussian.specs.Gaussian as Gaussian
 use Rattle.fir_gaussian.specs.GaussianLaws.{gaussian-count}
 use Rattle.fir_channelizer.specs.Channelizer as Channelizer
 use Rattle.fir_channelizer.specs.ChannelizerLaws.{channelizer-count}
-use Rattle.ticket_slices.specs.Agree.{Agrees, agree}
+use Rattle.ticket_slices.specs.Agree.{agree}
 use Rattle.promise_totals.specs.Bounds.{TapTotal, Q15Total, unsaturated}
 use Rattle.promise_totals.specs.Normalised.{Promised, normalised-promised}
 use Rattle.promise_totals.specs.Sound.{Made, lowpass-made, spec-made, halfband-made, gaussian-made, channelizer-made}

@@ -16,7 +16,7 @@ use Rattle.fmt_q15.specs.Q15.{takes}
 use Rattle.verdict.specs.Outcome.{Outcome}
 use Rattle.verdict.specs.Outcome as Outcome
 use Rattle.fir_spec.specs.declared.DesignSpec.{DesignSpec}
-use Rattle.ticket_codes.specs.Codes.{windowOf}
+use Rattle.ticket_codes.specs.declared.Coded.{Coded}
 use Rattle.c_lowpass.specs.Lowpass.{lowpassBytes}
 use Rattle.c_lowpass.specs.Prototype.{channelizerBytes}
 use Rattle.fir_lowpass.specs.Lowpass.{outcomeOf}
@@ -67,9 +67,9 @@ of-writes : {o : Outcome} {before after : List ℕ} {r : Report} → Sound o →
 of-writes {o} {before} s w = by-writes Totals w (sound-totals o before s)
 
 -- ---- of each export; `Writes` is what it ensures
--- `pel_lowpass`
-pub lowpass-written : (cutoff rate : Float) (code : ℕ) (beta : Float) (before after : List ℕ) (r : Report) → Writes floatBytes (lowpassBytes cutoff rate (windowOf code beta) (length before)) before r after → Totals r after
-lowpass-written cutoff rate code beta before after r w = of-writes (lowpass-bytes-sound cutoff rate (windowOf code beta) (length before)) w
+-- `pel_lowpass`, by what its code stands for, and `pel_lowpass_cosines`, by its loaded window
+pub lowpass-written : (cutoff rate : Float) (w : Coded) (before after : List ℕ) (r : Report) → Writes floatBytes (lowpassBytes cutoff rate w (length before)) before r after → Totals r after
+lowpass-written cutoff rate w before after r h = of-writes (lowpass-bytes-sound cutoff rate w (length before)) h
 
 -- `pel_design_lowpass`, `pel_design_new_cutoff` and `pel_design_new_beta`
 pub design-lowpass-written : (cutoff rate : Float) (window : ℕ) (beta : Float) (before after : List ℕ) (r : Report) → Writes floatBytes (outcomeOf (lowpassFor cutoff rate window beta (length before))) before r after → Totals r after

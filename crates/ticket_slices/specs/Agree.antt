@@ -13,7 +13,7 @@ use Rattle.laws.specs.Sums.{sum-below}
 use Rattle.verdict.specs.Numbers.{badCount, badSum}
 use Rattle.verdict.specs.declared.Refusal.{Refusal}
 use Rattle.verdict.specs.declared.Refusal.the-variants.{Plain}
-use Rattle.verdict.specs.Outcome.{Outcome, Fills}
+use Rattle.verdict.specs.Outcome.{Outcome, Fills, Agrees}
 use Rattle.verdict.specs.Outcome as Outcome
 use Rattle.fir_lowpass.specs.Lowpass as Lowpass
 use Rattle.fir_lowpass.specs.LowpassLaws.{ready-is}
@@ -28,13 +28,6 @@ use Rattle.fir_halfband.specs.Distance.{taken-odd, left-is-lesser, lesser-dista
 use Rattle.fir_halfband.specs.declared.HalfbandDesign.{HalfbandDesign}
 use Rattle.fir_halfband.specs.declared.HalfbandDesigned.{HalfbandDesigned}
 use Rattle.fir_halfband.specs.declared.HalfbandDesigned.the-variants.{Ready, Refused}
-
--- the same refusal, or as many taps, the same divisor, and the same taps
-abbrev pub Agrees : Outcome → Outcome → Type 0
-Agrees (Outcome.Designed n s t) (Outcome.Designed m u v) = (n ≡ m) × (s ≡ u) × ((k : ℕ) → k < n → t k ≡ v k)
-Agrees (Outcome.Designed n s t) (Outcome.Refused why) = ⊥
-Agrees (Outcome.Refused why) (Outcome.Designed m u v) = ⊥
-Agrees (Outcome.Refused why) (Outcome.Refused other) = why ≡ other
 
 -- ---- a low-pass of n taps, n being odd
 module _ (l : Lowpass) (o : l .n % 2 ≡ 1) where

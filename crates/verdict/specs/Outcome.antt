@@ -1,6 +1,6 @@
 -- What a designer gives, of whichever kind: so many taps and the sum that they were divided by last, or a refusal; and
 -- the buffer that it fills. Definitions only.
-use Prim.Native.Nat.{ℕ}
+use Prim.Native.Nat.{ℕ, _<_}
 use mathlib.Core.Path.{_≡_}
 use mathlib.Core.List.{List}
 use lib.ListN.{length}
@@ -33,3 +33,10 @@ stored (Refused why) d = d
 pub record Fills (o : Outcome) (before : List Float) (r : Verdict) (after : List Float) : Type 0 where
   pub answer : r ≡ answered o
   pub buffer : after ≡ stored o before
+
+-- ---- two outcomes that nobody can tell apart: the same refusal, or as many taps, the same divisor, and the same taps
+abbrev pub Agrees : Outcome → Outcome → Type 0
+Agrees (Designed n s t) (Designed m u v) = (n ≡ m) × (s ≡ u) × ((k : ℕ) → k < n → t k ≡ v k)
+Agrees (Designed n s t) (Refused why) = ⊥
+Agrees (Refused why) (Designed m u v) = ⊥
+Agrees (Refused why) (Refused other) = why ≡ other

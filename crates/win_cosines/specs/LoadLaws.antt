@@ -113,3 +113,20 @@ module _ {n : ℕ} {c : Cosines} (cs : List Float) (k : length cs ≡ n) (is : c
         ap (λ (a : Bool). cond a (Loaded c) (Refused (Plain badCoefficientSum))) h
         ∙ ap (λ (z : Cosines). cond (nearOne cs) (Loaded z) (Refused (Plain badCoefficientSum))) (sym is)
         ∙ sym (counted ∙ ap (λ (v : Verdict). wherePassed v (cond (nearOne cs) (Loaded (cosinesOf cs)) (Refused (Plain badCoefficientSum)))) (sym (e ∙ taken)))
+
+-- ---- a window that is loaded has the numbers that were given
+pub never : (why : Refusal) (c : Cosines) → Refused why ≡ Loaded c → ⊥
+never why c g = let z : _≡_ {A = ℕ} 0 1 = cc in omega arith
+
+same-window : (c d : Cosines) → Loaded c ≡ Loaded d → c ≡ d
+same-window c d e = cc
+
+pub these : (cs : List Float) (c : Cosines) → loadOf cs ≡ Loaded c → c ≡ cosinesOf cs
+unfolding loadOf
+these cs c e = go (leb 1 (length cs) && leb (length cs) 5) (numbersTaken cs) (nearOne cs) e
+  where
+    go : (a : Bool) (v : Verdict) (b : Bool) → cond a (wherePassed v (cond b (Loaded (cosinesOf cs)) (Refused (Plain badCoefficientSum)))) (Refused (Range badCoefficientCount (whole 1) (whole 5) (whole (length cs)))) ≡ Loaded c → c ≡ cosinesOf cs
+    go true Verdict.Done true e = sym (same-window (cosinesOf cs) c e)
+    go true Verdict.Done false e = absurd (never _ c e)
+    go true (Verdict.Refused why) b e = absurd (never why c e)
+    go false v b e = absurd (never _ c e)

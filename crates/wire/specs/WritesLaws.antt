@@ -6,7 +6,7 @@ use native.Mathlib.Omega.{arith}
 use borrow.Author.Tests.{eq-eqb, ne-eqb}
 use lib.ListN.{length}
 use lib.Ieee.{Float, binary64, toBits}
-use Rattle.laws.specs.Chunks.{chunks, chunked}
+use Rattle.laws.specs.Chunks.{chunks, chunked, chunks-below}
 use Rattle.wire.specs.Bytes.{floatBytes}
 use Rattle.wire.specs.Laws.{put-all}
 use Rattle.wire.specs.Writes.{wholeElements, written, Writes, Room}
@@ -15,7 +15,7 @@ use Rattle.verdict.specs.declared.Refusal.the-variants.{Length}
 use Rattle.verdict.specs.declared.Report.{Report}
 use Rattle.verdict.specs.Report.{reportOf, acceptedOf}
 use Rattle.verdict.specs.Reports.{outcomeReport}
-use Rattle.verdict.specs.Outcome.{Outcome}
+use Rattle.verdict.specs.Outcome.{Outcome, Agrees}
 use Rattle.verdict.specs.Outcome as Outcome
 use Rattle.verdict.specs.Counted.{Counted}
 
@@ -32,6 +32,16 @@ module _ {bytes : Float → List ℕ} {o : Outcome} {before : List ℕ} {r : Rep
   -- the same outcome by another name
   pub writes-same : {p : Outcome} {after : List ℕ} → o ≡ p → Writes bytes o before r after → Writes bytes p before r after
   writes-same e h = record { answer = h .answer ∙ ap outcomeReport e; buffer = h .buffer ∙ ap (λ (p : Outcome). written bytes p before) e }
+
+-- two outcomes that agree are told and written alike
+pub writes-agreed : {bytes : Float → List ℕ} {before after : List ℕ} {r : Report} (o p : Outcome) → Agrees o p → Writes bytes o before r after → Writes bytes p before r after
+writes-agreed {bytes} (Outcome.Designed n s t) (Outcome.Designed m u v) (counts, divisors, taps) h = record {
+  answer = h .answer ∙ ap (λ (k : ℕ). acceptedOf k s) counts ∙ ap (acceptedOf m) divisors;
+  buffer = h .buffer ∙ chunks-below n (λ i. bytes (t i)) (λ i. bytes (v i)) (λ i l. ap bytes (taps i l)) ∙ ap (λ (k : ℕ). chunks k (λ i. bytes (v i))) counts;
+}
+writes-agreed (Outcome.Designed n s t) (Outcome.Refused why) a h = absurd a
+writes-agreed (Outcome.Refused why) (Outcome.Designed m u v) a h = absurd a
+writes-agreed (Outcome.Refused why) (Outcome.Refused other) a h = record { answer = h .answer ∙ ap reportOf a; buffer = h .buffer }
 
 -- ---- by the length too: elements of w bytes in a buffer of len
 module _ {bytes : Float → List ℕ} (w len : ℕ) (o : Outcome) {before : List ℕ} {r : Report} where

@@ -74,4 +74,3 @@ value-of-spec =
     returns-3
     returns-4
     returns-5)
-

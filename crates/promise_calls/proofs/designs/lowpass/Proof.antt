@@ -20,7 +20,7 @@ returns : tie.Need-returns
 returns c =
     let a = c .before .before .before .before .before .args in
     let w = c .before .before .pel-lowpass .ensures in
-    (filled-or-kept (lowpass-bytes (a .cutoff) (a .rate) (windowOf (a .window) (a .beta)) (length (a .out .now))) w (same-length c), (lowpass-written (a .cutoff) (a .rate) (a .window) (a .beta) _ _ _ w, lowpass-taken (a .cutoff) (a .rate) (a .window) (a .beta) w))
+    (filled-or-kept (lowpass-bytes (a .cutoff) (a .rate) (windowOf (a .window) (a .beta)) (length (a .out .now))) w (same-length c), (lowpass-written (a .cutoff) (a .rate) (windowOf (a .window) (a .beta)) _ _ _ w, lowpass-taken (a .cutoff) (a .rate) (a .window) (a .beta) w))
 
 pub lowpass-spec : {M : Type 1} → statement M
 lowpass-spec = tie.close (tie.spec pel-lowpass-requires same-length returns)
