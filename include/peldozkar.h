@@ -3,8 +3,9 @@
  * Link with libpeldozkar.a, which `make lib` writes; it is for x86-64 today. Each function is proved to give the value
  * that is said here for every argument, NaN, infinities, zeros of both signs, subnormal numbers and impossible counts
  * included; it allocates nothing, keeps nothing, calls nothing but memset and always returns. On the stack pel_lowpass,
- * pel_design_lowpass, pel_design_new_cutoff, pel_design_new_beta, pel_spec_design, pel_halfband, pel_gaussian and
- * pel_channelizer_prototype take 9,120 bytes at most, the others under 1,000; docs/FUNCTIONS.md has the bytes of each.
+ * pel_lowpass_cosines, pel_design_lowpass, pel_design_new_cutoff, pel_design_new_beta, pel_spec_design, pel_halfband,
+ * pel_gaussian and pel_channelizer_prototype take 9,120 bytes at most, the others under 1,000; docs/FUNCTIONS.md has
+ * the bytes of each.
  *
  * The bits are the same on every reader: each operation is rounded once to a double, to the nearest, ties to even. A
  * NaN's sign and payload are free.
@@ -28,8 +29,8 @@
 /* The version of this header and of the library that comes with it. */
 #define PEL_VERSION_MAJOR 0
 #define PEL_VERSION_MINOR 5
-#define PEL_VERSION_PATCH 0
-#define PEL_VERSION "0.5.0"
+#define PEL_VERSION_PATCH 1
+#define PEL_VERSION "0.5.1"
 
 #ifdef __cplusplus
 extern "C" {
@@ -64,8 +65,8 @@ double pel_pow04(double v);
 
 /* ---- What a designer answers ------------------------------------------------------------------ */
 
-/* The refusals by number, and what is wrong. The numbers are 1 to 11, and 16. Later versions add others, between these
- * and above them: a caller must treat every number but PEL_ACCEPTED as a refusal, those that it doesn't know
+/* The refusals by number, and what is wrong. The numbers are 1 to 11, and 16 to 19. Later versions add others, between
+ * these and above them: a caller must treat every number but PEL_ACCEPTED as a refusal, those that it doesn't know
  * included. */
 enum {
     PEL_ACCEPTED = 0,
@@ -83,8 +84,12 @@ enum {
     /* Arithmetic caused it. */
     PEL_BAD_SUM = 10,     /* the sum that the taps are divided by is 0 or not finite */
     PEL_BAD_ELEMENT = 11, /* an element that Q15 or Q14 can't take */
-    PEL_NOT_SETTLED = 16  /* a Bessel series of Kaiser's window doesn't settle: take a beta of 713 or less, since above
+    PEL_NOT_SETTLED = 16, /* a Bessel series of Kaiser's window doesn't settle: take a beta of 713 or less, since above
                              about 714 none does */
+    /* The ticket's author caused it. */
+    PEL_BAD_COEFFICIENT_COUNT = 17, /* how many coefficients: not 1 to 5 */
+    PEL_BAD_COEFFICIENT = 18,       /* a coefficient that isn't finite or whose size is above 1 */
+    PEL_BAD_COEFFICIENT_SUM = 19    /* the exact sum of the coefficients is further than 2^-40 from 1 */
 };
 
 /* `number` is PEL_ACCEPTED where the ticket is accepted, and then `count` and `value` are the results. Otherwise it is
@@ -99,7 +104,7 @@ typedef struct {
     uint64_t given;    /* PEL_LENGTH: the length given;    PEL_CAP: max_taps */
     uint64_t index;    /* PEL_ELEMENT: the element's index */
     /* Accepted, and of pel_bessel_i0 with 16 too: */
-    uint64_t count; /* the number of taps, terms, half samples, samples or elements */
+    uint64_t count; /* the number of taps, terms, half samples, samples, elements or coefficients */
     double value;   /* a divisor, a factor, a beta, a sum, or a Q15 or Q14 number */
 } pel_report;
 
@@ -175,6 +180,56 @@ pel_report pel_spec_num_taps(double cutoff, double transition, double attenuatio
 pel_report pel_spec_lowpass(double cutoff, double transition, double attenuation, double rate, uint64_t max_taps);
 pel_report pel_spec_design(double cutoff, double transition, double attenuation, double rate, uint64_t max_taps,
                            uint8_t *out, size_t bytes);
+
+/* ---- A customer's own window -------------------------------------------------------------------- */
+
+/* The coefficients of a cosine window: at tap i of n, with x = 2 PI i/(n - 1), it is
+ *   c0 - c1 cos(x) + c2 cos(2x) - c3 cos(3x) + c4 cos(4x)
+ * from left to right, with pel_cos; one tap has the window 1. */
+typedef struct {
+    double c0;
+    double c1;
+    double c2;
+    double c3;
+    double c4;
+} pel_cosines;
+
+/* The window to design with from now on, and the report. */
+typedef struct {
+    pel_cosines window;
+    pel_report report;
+} pel_loaded;
+
+/* Loads a window of one to five coefficients, c0 first, eight bytes each, little-endian, at any alignment. They are
+ * checked here, once, and not by the designs. Accepted: the window has the coefficients as they are, -0 as -0, and +0
+ * for those not given; count is how many were given. Refused, in this order, with a window of five zeros:
+ *   8   source_bytes isn't a multiple of 8: expected the multiple below it, given, both in bytes
+ *   17  (1, 5, count) where the count isn't 1 to 5
+ *   18  (-1, 1, the first such number) where a number isn't finite or is above 1 in size
+ *   19  the exact sum is further than 2^-40 from 1; exactly so far is taken
+ * Printed windows whose digits add up to 1 are taken: Hann 0.5, 0.5; Hamming 0.54, 0.46; Blackman 0.42, 0.5, 0.08;
+ * Blackman-Harris 0.35875, 0.48829, 0.14128, 0.01168; Nuttall 0.355768, 0.487396, 0.144232, 0.012604. The flat top
+ * 0.21557895, 0.41663158, 0.277263158, 0.083578947, 0.006947368 adds up to 1 + 3e-9 and is 19; with 0.215578947 as the
+ * first number it is taken.
+ * Example: 1, 2^-40 is taken; 1, 2^-40, 2^-1074 is 19; six numbers are 17 with (1, 5, 6). */
+pel_loaded pel_load_cosines(const uint8_t *source, size_t source_bytes);
+
+/* pel_lowpass and pel_lowpass_new with a loaded window, which needs no code and no beta. A loaded Hann, Hamming or
+ * Blackman gives the bytes and the report of pel_lowpass with that code, bit for bit: proved. Accepted: count is the
+ * number of taps, value the divisor. Refused, in this order, with `out` as it came:
+ *   8   (pel_lowpass_cosines) bytes isn't a multiple of 8, both figures in bytes
+ *   1   a rate that isn't finite and positive
+ *   2   (0, rate/2, cutoff) where cutoff/rate isn't between 0 and 1/2
+ *   6   no taps, or more than 2^24
+ *   10  a divisor that is 0 or not finite
+ * The window isn't checked again: one that pel_load_cosines didn't give is taken as it says. The zeros that a refused
+ * load leaves are 10 for any number of taps but one, so look at the load's own number first.
+ * A loaded window has no knob to turn: that saves the series of PEL_KAISER, which it hasn't, so a new design costs the
+ * same.
+ * Example: Blackman's 0.42, 0.5, 0.08 loaded: (1000, 8000, window, out, 248) gives the 31 taps that
+ * (1000, 8000, PEL_BLACKMAN, 0, out, 248) gives. */
+pel_report pel_lowpass_cosines(double cutoff, double rate, pel_cosines window, uint8_t *out, size_t bytes);
+pel_report pel_lowpass_cosines_new(double cutoff, double rate, pel_cosines window, uint64_t taps);
 
 /* ---- A low-pass whose knob is turned ------------------------------------------------------------ */
 
