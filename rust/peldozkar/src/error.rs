@@ -51,12 +51,18 @@ pub enum Reason {
     /// 16: a Bessel series of Kaiser's window doesn't settle ([`Series::settled`](crate::Series::settled)). Take a
     /// smaller beta: up to 713 every series settles, above about 714 that at beta doesn't.
     Unsettled,
-    /// A number that this crate doesn't know, none of 1 to 11 and 16: the library is newer than it.
+    /// 17: how many coefficients a cosine window has: not 1 to 5.
+    CoefficientCount,
+    /// 18: a coefficient of a cosine window that isn't finite or whose size is above 1.
+    Coefficient,
+    /// 19: the exact sum of a cosine window's coefficients is further than 2^-40 from 1.
+    CoefficientSum,
+    /// A number that this crate doesn't know, none of 1 to 11 and 16 to 19: the library is newer than it.
     Unknown(u32),
 }
 
 impl Reason {
-    /// The refusal's number: 1 to 11, 16, or the one that is [`Unknown`](Self::Unknown).
+    /// The refusal's number: 1 to 11, 16 to 19, or the one that is [`Unknown`](Self::Unknown).
     ///
     /// ```
     /// assert_eq!(peldozkar::Reason::Cap.number(), 9);
@@ -75,6 +81,9 @@ impl Reason {
             Self::Divisor => raw::BAD_SUM,
             Self::Element => raw::BAD_ELEMENT,
             Self::Unsettled => raw::NOT_SETTLED,
+            Self::CoefficientCount => raw::BAD_COEFFICIENT_COUNT,
+            Self::Coefficient => raw::BAD_COEFFICIENT,
+            Self::CoefficientSum => raw::BAD_COEFFICIENT_SUM,
             Self::Unknown(number) => number,
         }
     }
@@ -93,6 +102,9 @@ impl Reason {
             raw::BAD_SUM => Self::Divisor,
             raw::BAD_ELEMENT => Self::Element,
             raw::NOT_SETTLED => Self::Unsettled,
+            raw::BAD_COEFFICIENT_COUNT => Self::CoefficientCount,
+            raw::BAD_COEFFICIENT => Self::Coefficient,
+            raw::BAD_COEFFICIENT_SUM => Self::CoefficientSum,
             other => Self::Unknown(other),
         }
     }
@@ -116,6 +128,11 @@ impl Reason {
             Self::Element => "an element doesn't fit the format",
             Self::Unsettled => {
                 "a Bessel series of Kaiser's window doesn't settle: take a beta of 713, or 6478 dB, at most"
+            }
+            Self::CoefficientCount => "a cosine window has one to five coefficients",
+            Self::Coefficient => "a coefficient isn't finite, or its size is above 1",
+            Self::CoefficientSum => {
+                "the coefficients don't add up to 1: their exact sum may be off by 2^-40 at most"
             }
             Self::Unknown(_) => "the library is newer than this crate",
         }

@@ -16,7 +16,8 @@
 //! ```
 //!
 //! Or by what it has to do, with Kaiser's formulas finding the number of taps: [`Spec`]. Where a knob is turned, for
-//! the cutoff or for beta, [`Lowpass`] keeps the record of the design.
+//! the cutoff or for beta, [`Lowpass`] keeps the record of the design. A window of a customer's own coefficients is
+//! loaded once: [`Cosines`].
 //!
 //! # Filled or refused
 //!
@@ -25,8 +26,8 @@
 //! take keeps the numbers before it. Every number can be offered, NaN, infinities and impossible counts
 //! included: nothing here panics.
 //!
-//! A refusal has a number. This crate knows 1 to 11, and 16; later versions add others, between these and above, so
-//! [`Reason`], [`Carried`], [`Window`] and [`Response`] are `#[non_exhaustive]`.
+//! A refusal has a number. This crate knows 1 to 11, and 16 to 19; later versions add others, between these and
+//! above, so [`Reason`], [`Carried`], [`Window`] and [`Response`] are `#[non_exhaustive]`.
 //!
 //! # What a caller owes
 //!
@@ -71,6 +72,7 @@ compile_error!(
 struct Readme;
 
 mod channelizer;
+mod cosines;
 mod elementary;
 mod error;
 mod formats;
@@ -87,6 +89,7 @@ mod windows;
 pub use channelizer::{
     channelizer_lowpass, channelizer_prototype, channelizer_taps, channelizer_taps_per_branch,
 };
+pub use cosines::Cosines;
 pub use elementary::{ceil, cos, exp, fabs, floor, pow04, sin, sqrt};
 pub use error::{Carried, Error, Reason};
 pub use formats::{q14_from_f64, q15_from_f64, q15_tap, to_f32, to_f32_sos, to_q14, to_q15};

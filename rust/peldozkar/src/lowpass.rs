@@ -1,8 +1,8 @@
 //! Low-pass filters, by their taps or by what they have to do.
 
-use crate::Error;
 use crate::raw::{self, Report};
 use crate::sys::bytes_mut;
+use crate::{Cosines, Error};
 
 /// The window of a low-pass. Later versions may have more of them.
 #[derive(Clone, Copy, Debug, PartialEq)]
@@ -16,16 +16,22 @@ pub enum Window {
     Blackman,
     /// Kaiser's, with its beta.
     Kaiser(f64),
+    /// A customer's own, loaded. [`Lowpass`](crate::Lowpass) has no knob for it.
+    Cosines(Cosines),
 }
 
+/// A code that no window has: an export refuses it with 7, before anything else.
+const NO_CODE: u64 = u64::MAX;
+
 impl Window {
-    /// The code, and the beta, which counts for Kaiser's window alone.
+    /// The code, which a loaded window hasn't, and the beta, which counts for Kaiser's window alone.
     pub(crate) const fn coded(self) -> (u64, f64) {
         match self {
             Self::Hann => (raw::HANN, 0.0),
             Self::Hamming => (raw::HAMMING, 0.0),
             Self::Blackman => (raw::BLACKMAN, 0.0),
             Self::Kaiser(beta) => (raw::KAISER, beta),
+            Self::Cosines(_) => (NO_CODE, 0.0),
         }
     }
 }
@@ -62,6 +68,8 @@ impl Design {
 ///   tap takes no series
 /// - 10 a divisor that is 0 or not finite: too few taps for the window
 ///
+/// A loaded window was checked when it was loaded, and has no refusal of its own here.
+///
 /// # Examples
 ///
 /// ```
@@ -84,8 +92,13 @@ impl Design {
 /// # }
 /// ```
 pub fn lowpass(cutoff: f64, rate: f64, window: Window, out: &mut [f64]) -> Result<Design, Error> {
-    let (code, beta) = window.coded();
-    Design::of(raw::pel_lowpass(cutoff, rate, code, beta, bytes_mut(out)))
+    let out = bytes_mut(out);
+    Design::of(if let Window::Cosines(loaded) = window {
+        raw::pel_lowpass_cosines(cutoff, rate, loaded.record(), out)
+    } else {
+        let (code, beta) = window.coded();
+        raw::pel_lowpass(cutoff, rate, code, beta, out)
+    })
 }
 
 /// The judgement of [`lowpass`] for a number of taps, without a buffer.
@@ -102,8 +115,12 @@ pub fn lowpass(cutoff: f64, rate: f64, window: Window, out: &mut [f64]) -> Resul
 /// # }
 /// ```
 pub fn lowpass_new(cutoff: f64, rate: f64, window: Window, taps: u64) -> Result<Design, Error> {
-    let (code, beta) = window.coded();
-    Design::of(raw::pel_lowpass_new(cutoff, rate, code, beta, taps))
+    Design::of(if let Window::Cosines(loaded) = window {
+        raw::pel_lowpass_cosines_new(cutoff, rate, loaded.record(), taps)
+    } else {
+        let (code, beta) = window.coded();
+        raw::pel_lowpass_new(cutoff, rate, code, beta, taps)
+    })
 }
 
 /// A low-pass by what it has to do; Kaiser's formulas find the taps and beta.

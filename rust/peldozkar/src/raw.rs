@@ -25,10 +25,11 @@ pub use crate::sys::{
     pel_channelizer_taps, pel_channelizer_taps_per_branch, pel_cos, pel_delay, pel_design_lowpass,
     pel_design_new_beta, pel_design_new_cutoff, pel_exp, pel_fabs, pel_floor, pel_gaussian,
     pel_gaussian_new, pel_halfband, pel_halfband_len, pel_halfband_new, pel_hann_f32, pel_hann_q15,
-    pel_kaiser_beta, pel_kaiser_f32, pel_kaiser_q15, pel_kaiserord, pel_lowpass, pel_lowpass_new,
-    pel_pow04, pel_preemphasis_coefs, pel_q14_from_f64, pel_q15_from_f64, pel_q15_tap, pel_rrc,
-    pel_rrc_len, pel_rrc_new, pel_sin, pel_spec_design, pel_spec_lowpass, pel_spec_num_taps,
-    pel_sqrt, pel_to_f32, pel_to_f32_sos, pel_to_q14, pel_to_q15, pel_window_gain,
+    pel_kaiser_beta, pel_kaiser_f32, pel_kaiser_q15, pel_kaiserord, pel_load_cosines, pel_lowpass,
+    pel_lowpass_cosines, pel_lowpass_cosines_new, pel_lowpass_new, pel_pow04,
+    pel_preemphasis_coefs, pel_q14_from_f64, pel_q15_from_f64, pel_q15_tap, pel_rrc, pel_rrc_len,
+    pel_rrc_new, pel_sin, pel_spec_design, pel_spec_lowpass, pel_spec_num_taps, pel_sqrt,
+    pel_to_f32, pel_to_f32_sos, pel_to_q14, pel_to_q15, pel_window_gain,
 };
 
 /// `number`: the ticket is accepted. Every other number is a refusal, those included that are not named here: later
@@ -58,6 +59,12 @@ pub const BAD_SUM: u32 = 10;
 pub const BAD_ELEMENT: u32 = 11;
 /// `number`: a Bessel series of Kaiser's window doesn't settle; a smaller beta is needed.
 pub const NOT_SETTLED: u32 = 16;
+/// `number`: how many coefficients, not 1 to 5.
+pub const BAD_COEFFICIENT_COUNT: u32 = 17;
+/// `number`: a coefficient that isn't finite or whose size is above 1.
+pub const BAD_COEFFICIENT: u32 = 18;
+/// `number`: the exact sum of the coefficients is further than 2^-40 from 1.
+pub const BAD_COEFFICIENT_SUM: u32 = 19;
 
 /// `carries`: nothing.
 pub const NOTHING: u32 = 0;
@@ -114,12 +121,38 @@ pub struct Report {
     pub given: u64,
     /// The index of the element.
     pub index: u64,
-    /// Accepted, and of [`pel_bessel_i0`] with [`NOT_SETTLED`] too: the number of taps, terms, half samples, samples or
-    /// elements.
+    /// Accepted, and of [`pel_bessel_i0`] with [`NOT_SETTLED`] too: the number of taps, terms, half samples, samples,
+    /// elements or coefficients.
     pub count: u64,
     /// Accepted, and of [`pel_bessel_i0`] with [`NOT_SETTLED`] too: a divisor, a factor, a beta, a sum, or a Q15 or Q14
     /// number.
     pub value: f64,
+}
+
+/// The coefficients of a cosine window: `pel_cosines`. A design takes them as they are.
+#[repr(C)]
+#[derive(Clone, Copy, Debug, Default, PartialEq)]
+pub struct Cosines {
+    /// The constant.
+    pub c0: f64,
+    /// Of cos(x), which is taken away.
+    pub c1: f64,
+    /// Of cos(2x).
+    pub c2: f64,
+    /// Of cos(3x), which is taken away.
+    pub c3: f64,
+    /// Of cos(4x).
+    pub c4: f64,
+}
+
+/// What loading a window answers: `pel_loaded`.
+#[repr(C)]
+#[derive(Clone, Copy, Debug, Default, PartialEq)]
+pub struct Loaded {
+    /// The window; zeros after a refusal.
+    pub window: Cosines,
+    /// The report.
+    pub report: Report,
 }
 
 /// The record of a low-pass whose knob is turned: `pel_design`. It is kept from one turn to the next.

@@ -43,7 +43,23 @@ impl Lowpass {
     ///
     /// # Errors
     ///
-    /// As [`lowpass`](crate::lowpass), with `out` as it came.
+    /// As [`lowpass`](crate::lowpass), with `out` as it came; and 7, before anything else, where the window is a loaded
+    /// one: the record is there to save Kaiser's series, which such a window hasn't, so a new design costs the same.
+    ///
+    /// # Examples
+    ///
+    /// ```
+    /// # fn main() -> Result<(), peldozkar::Error> {
+    /// use peldozkar::{Cosines, Lowpass, Reason, Window};
+    ///
+    /// let window = Window::Cosines(Cosines::load(&[0.42, 0.5, 0.08])?);
+    /// let mut taps = [0.0; 63];
+    /// let error = Lowpass::new(1000.0, 8000.0, window, &mut taps).unwrap_err();
+    /// assert_eq!(error.reason, Reason::Code);
+    /// assert_eq!(taps, [0.0; 63]);
+    /// # Ok(())
+    /// # }
+    /// ```
     pub fn new(cutoff: f64, rate: f64, window: Window, out: &mut [f64]) -> Result<Self, Error> {
         let (code, beta) = window.coded();
         let tuned = raw::pel_design_lowpass(cutoff, rate, code, beta, bytes_mut(out));

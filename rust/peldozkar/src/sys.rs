@@ -9,10 +9,10 @@
 
 use core::slice;
 
-use crate::raw::{Design, GainReport, Report, Tuned};
+use crate::raw::{Cosines, Design, GainReport, Loaded, Report, Tuned};
 
 mod border {
-    use super::{Design, GainReport, Report, Tuned};
+    use super::{Cosines, Design, GainReport, Loaded, Report, Tuned};
 
     #[link(name = "peldozkar", kind = "static")]
     unsafe extern "C" {
@@ -50,6 +50,13 @@ mod border {
             rate: f64,
             window: u64,
             beta: f64,
+            taps: u64,
+        ) -> Report;
+        /// A low-pass with a loaded window, judged without a buffer.
+        pub safe fn pel_lowpass_cosines_new(
+            cutoff: f64,
+            rate: f64,
+            window: Cosines,
             taps: u64,
         ) -> Report;
         /// The taps that a specification needs.
@@ -112,6 +119,14 @@ mod border {
             rate: f64,
             window: u64,
             beta: f64,
+            out: *mut u8,
+            bytes: usize,
+        ) -> Report;
+        pub unsafe fn pel_load_cosines(source: *const u8, source_bytes: usize) -> Loaded;
+        pub unsafe fn pel_lowpass_cosines(
+            cutoff: f64,
+            rate: f64,
+            window: Cosines,
             out: *mut u8,
             bytes: usize,
         ) -> Report;
@@ -239,8 +254,8 @@ pub use border::{
     pel_bessel_i0, pel_ceil, pel_channelizer_lowpass, pel_channelizer_taps,
     pel_channelizer_taps_per_branch, pel_cos, pel_delay, pel_exp, pel_fabs, pel_floor,
     pel_gaussian_new, pel_halfband_len, pel_halfband_new, pel_kaiser_beta, pel_kaiserord,
-    pel_lowpass_new, pel_pow04, pel_q14_from_f64, pel_q15_from_f64, pel_q15_tap, pel_rrc_len,
-    pel_rrc_new, pel_sin, pel_spec_lowpass, pel_spec_num_taps, pel_sqrt,
+    pel_lowpass_cosines_new, pel_lowpass_new, pel_pow04, pel_q14_from_f64, pel_q15_from_f64,
+    pel_q15_tap, pel_rrc_len, pel_rrc_new, pel_sin, pel_spec_lowpass, pel_spec_num_taps, pel_sqrt,
 };
 
 /// A function that fills a buffer: the C function with its pointer and length as one slice. Inlined, so that a
@@ -259,6 +274,8 @@ macro_rules! filling {
 filling! {
     /// The taps of a low-pass.
     pel_lowpass(cutoff: f64, rate: f64, window: u64, beta: f64) -> Report;
+    /// The taps of a low-pass with a loaded window.
+    pel_lowpass_cosines(cutoff: f64, rate: f64, window: Cosines) -> Report;
     /// The taps of a low-pass, and its record.
     pel_design_lowpass(cutoff: f64, rate: f64, window: u64, beta: f64) -> Tuned;
     /// The record with a new cutoff, given with its rate, and the taps.
@@ -319,6 +336,13 @@ converting! {
     pel_to_f32;
     /// Sections as floats.
     pel_to_f32_sos;
+}
+
+/// A cosine window of the coefficients in a source.
+#[inline]
+pub fn pel_load_cosines(source: &[u8]) -> Loaded {
+    // SAFETY: the source is so many bytes at a pointer that isn't null.
+    unsafe { border::pel_load_cosines(source.as_ptr(), source.len()) }
 }
 
 /// The gain and the bandwidth of a window of floats.

@@ -4,14 +4,14 @@
 use std::collections::BTreeSet;
 use std::mem::offset_of;
 
-use peldozkar::raw::{self, GainReport, Report, Tuned};
+use peldozkar::raw::{self, GainReport, Loaded, Report, Tuned};
 use peldozkar::{
-    HalfSamples, Lowpass, Response, Rrc, Series, Spec, Symmetry, Window, bessel_i0, biquad_coefs,
-    blackman_harris, butterworth_sos, channelizer_lowpass, channelizer_prototype, channelizer_taps,
-    channelizer_taps_per_branch, delay, gaussian, gaussian_new, halfband, halfband_len,
-    halfband_new, hann, kaiser, kaiser_beta, kaiserord, lowpass, lowpass_new, preemphasis_coefs,
-    q14_from_f64, q15_from_f64, q15_tap, rrc, rrc_len, rrc_new, to_f32, to_f32_sos, to_q14, to_q15,
-    window_gain,
+    Cosines, HalfSamples, Lowpass, Response, Rrc, Series, Spec, Symmetry, Window, bessel_i0,
+    biquad_coefs, blackman_harris, butterworth_sos, channelizer_lowpass, channelizer_prototype,
+    channelizer_taps, channelizer_taps_per_branch, delay, gaussian, gaussian_new, halfband,
+    halfband_len, halfband_new, hann, kaiser, kaiser_beta, kaiserord, lowpass, lowpass_new,
+    preemphasis_coefs, q14_from_f64, q15_from_f64, q15_tap, rrc, rrc_len, rrc_new, to_f32,
+    to_f32_sos, to_q14, to_q15, window_gain,
 };
 
 /// The last beta whose series settles, and the next number.
@@ -77,6 +77,23 @@ fn layouts_are_those_of_the_header() {
         offset_of!(raw::Design, sum),
     ];
     assert_eq!(places, [0, 8, 16, 24, 32, 40]);
+    assert_eq!(
+        (size_of::<raw::Cosines>(), align_of::<raw::Cosines>()),
+        (40, 8)
+    );
+    let places = [
+        offset_of!(raw::Cosines, c0),
+        offset_of!(raw::Cosines, c1),
+        offset_of!(raw::Cosines, c2),
+        offset_of!(raw::Cosines, c3),
+        offset_of!(raw::Cosines, c4),
+    ];
+    assert_eq!(places, [0, 8, 16, 24, 32]);
+    assert_eq!((size_of::<Loaded>(), align_of::<Loaded>()), (112, 8));
+    assert_eq!(
+        (offset_of!(Loaded, window), offset_of!(Loaded, report)),
+        (0, 40)
+    );
     assert_eq!((size_of::<Tuned>(), align_of::<Tuned>()), (120, 8));
     assert_eq!(
         (offset_of!(Tuned, design), offset_of!(Tuned, report)),
@@ -226,6 +243,74 @@ fn lowpass_filters() {
         assert_eq!((design.taps, design.divisor), (31, report.value));
         assert_eq!(taps, want);
         assert_eq!(lowpass_new(900.0, 8000.0, window, 31), Ok(design));
+    }
+}
+
+/// A loaded window has its coefficients to the bit, and designs with the record that C has; where a code has the same
+/// window, both design the same.
+#[test]
+fn loaded_windows() {
+    let named: [(&[f64], Option<Window>); 8] = [
+        (&[0.5, 0.5], Some(Window::Hann)),
+        (&[0.54, 0.46], Some(Window::Hamming)),
+        (&[0.42, 0.5, 0.08], Some(Window::Blackman)),
+        (&[0.35875, 0.48829, 0.14128, 0.01168], None),
+        (&[0.355768, 0.487396, 0.144232, 0.012604], None),
+        (
+            &[
+                0.215578947,
+                0.41663158,
+                0.277263158,
+                0.083578947,
+                0.006947368,
+            ],
+            None,
+        ),
+        (&[1.0], None),
+        (&[1.0, -0.0, 0.5, -0.5, -5e-324], None),
+    ];
+    for (numbers, code) in named {
+        let loaded = Cosines::load(numbers).unwrap();
+        let mut want = [0.0; 5];
+        want[..numbers.len()].copy_from_slice(numbers);
+        assert_eq!(loaded.numbers().map(f64::to_bits), want.map(f64::to_bits));
+
+        // The bytes at an odd address, as the raw layer takes them.
+        let bytes: Vec<u8> = [7]
+            .into_iter()
+            .chain(numbers.iter().flat_map(|x| x.to_le_bytes()))
+            .collect();
+        let raw::Loaded { window, report } = raw::pel_load_cosines(&bytes[1..]);
+        let told = Report {
+            count: numbers.len() as u64,
+            ..Report::default()
+        };
+        assert_eq!(report, told);
+        let [c0, c1, c2, c3, c4] = want;
+        assert_eq!(window, raw::Cosines { c0, c1, c2, c3, c4 });
+
+        let (report, want) =
+            written::<31>(|out| raw::pel_lowpass_cosines(900.0, 8000.0, window, out));
+        let mut taps = [0.0; 31];
+        let design = lowpass(900.0, 8000.0, Window::Cosines(loaded), &mut taps).unwrap();
+        assert_eq!((design.taps, design.divisor), (31, report.value));
+        assert_eq!(taps, want);
+        assert_eq!(
+            lowpass_new(900.0, 8000.0, Window::Cosines(loaded), 31),
+            Ok(design)
+        );
+        assert_eq!(
+            raw::pel_lowpass_cosines_new(900.0, 8000.0, window, 31),
+            report
+        );
+        if let Some(code) = code {
+            assert_eq!(lowpass(900.0, 8000.0, code, &mut taps), Ok(design));
+            assert_eq!(taps.map(f64::to_bits), want.map(f64::to_bits));
+        }
+        // One tap has the window 1.
+        let mut one = [0.0];
+        let design = lowpass(0.25, 1.0, Window::Cosines(loaded), &mut one).unwrap();
+        assert_eq!((design.divisor, one), (0.5, [1.0]));
     }
 }
 

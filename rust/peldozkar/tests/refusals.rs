@@ -1,7 +1,7 @@
 //! Every refusal by its number, with what it carries, and what it leaves of a buffer.
 
 use peldozkar::{
-    Carried, Error, Lowpass, Reason, Response, Spec, Symmetry, Window, biquad_coefs,
+    Carried, Cosines, Error, Lowpass, Reason, Response, Spec, Symmetry, Window, biquad_coefs,
     blackman_harris, butterworth_sos, channelizer_prototype, channelizer_taps, delay, gaussian,
     gaussian_new, halfband, halfband_len, halfband_new, hann, kaiser, kaiserord, lowpass,
     lowpass_new, preemphasis_coefs, q14_from_f64, q15_tap, raw, rrc, rrc_len, rrc_new, to_f32,
@@ -111,8 +111,15 @@ fn numbers_are_those_of_the_header() {
         Reason::Divisor,
         Reason::Element,
         Reason::Unsettled,
+        Reason::CoefficientCount,
+        Reason::Coefficient,
+        Reason::CoefficientSum,
     ];
-    assert!(all.map(Reason::number).into_iter().eq((1..=11).chain([16])));
+    assert!(
+        all.map(Reason::number)
+            .into_iter()
+            .eq((1..=11).chain(16..=19))
+    );
     let named = [
         raw::BAD_RATE,
         raw::BAD_FREQUENCY,
@@ -126,11 +133,14 @@ fn numbers_are_those_of_the_header() {
         raw::BAD_SUM,
         raw::BAD_ELEMENT,
         raw::NOT_SETTLED,
+        raw::BAD_COEFFICIENT_COUNT,
+        raw::BAD_COEFFICIENT,
+        raw::BAD_COEFFICIENT_SUM,
     ];
     assert_eq!(all.map(Reason::number), named);
     assert_eq!(raw::ACCEPTED, 0);
     assert_eq!(Reason::Unknown(12).number(), 12);
-    assert_eq!(Reason::Unknown(17).number(), 17);
+    assert_eq!(Reason::Unknown(20).number(), 20);
 }
 
 #[test]
@@ -547,6 +557,136 @@ fn sixteen_among_its_neighbours() {
     );
 }
 
+/// 17, 18 and 19, alone and two at a time: the first of them is told. What is refused by the raw layer leaves zeros.
+#[test]
+fn seventeen_to_nineteen_the_coefficients() {
+    let near = 2.0_f64.powi(-40);
+    let least = f64::from_bits(1);
+    let above = f64::from_bits(1.0_f64.to_bits() + 1);
+    for count in [0, 6, 7, 40] {
+        let carried = range(1.0, 5.0, count as f64);
+        // Good numbers, those that add up to something else, and those that are too large.
+        for number in [1.0 / count.max(1) as f64, 1.0, -2.0, NAN] {
+            let numbers = vec![number; count];
+            refused(Cosines::load(&numbers), Reason::CoefficientCount, carried);
+        }
+    }
+    for offered in [above, -above, 2.0, f64::MAX, INFINITY, -INFINITY] {
+        // Alone, before 19, and the first of two.
+        for numbers in [
+            vec![offered],
+            vec![1.0, 0.0, offered, -offered],
+            vec![0.25, offered, NAN],
+            vec![1.0, 0.0, 0.0, 0.0, offered],
+        ] {
+            refused(
+                Cosines::load(&numbers),
+                Reason::Coefficient,
+                range(-1.0, 1.0, offered),
+            );
+        }
+    }
+    let error = Cosines::load(&[1.0, NAN]).unwrap_err();
+    assert_eq!(error.reason, Reason::Coefficient);
+    assert!(
+        matches!(error.carried, Carried::Range { smallest: -1.0, largest: 1.0, offered } if offered.is_nan())
+    );
+
+    // The exact sum: a double's would lose the least number.
+    for good in [
+        vec![1.0, near],
+        vec![1.0, -near],
+        vec![1.0, near / 2.0, near / 2.0],
+        vec![1.0, near, least, -least],
+        vec![1.0, 1.0, -1.0],
+    ] {
+        assert!(Cosines::load(&good).is_ok(), "{good:?}");
+    }
+    for bad in [
+        vec![1.0, near, least],
+        vec![1.0, -near, -least],
+        vec![least, near, 1.0],
+        vec![1.0, near / 2.0, near / 2.0, least],
+        vec![1.0, 1.0, -1.0, near, least],
+        vec![0.5],
+        vec![-1.0],
+        vec![0.0; 5],
+        vec![
+            0.21557895,
+            0.41663158,
+            0.277263158,
+            0.083578947,
+            0.006947368,
+        ],
+    ] {
+        plain(Cosines::load(&bad), Reason::CoefficientSum);
+        let bytes: Vec<u8> = bad.iter().flat_map(|x| x.to_le_bytes()).collect();
+        assert_eq!(
+            raw::pel_load_cosines(&bytes).window,
+            raw::Cosines::default()
+        );
+    }
+    // Bytes that aren't whole numbers come before all of them.
+    let report = raw::pel_load_cosines(&[0xFF; 47]).report;
+    assert_eq!(
+        (report.number, report.carries),
+        (raw::BAD_LENGTH, raw::LENGTH)
+    );
+    assert_eq!((report.expected, report.given), (40, 47));
+}
+
+/// A design with a loaded window: 1, 2, 6 and 10, and never 7, 4 or 16. A knob has none.
+#[test]
+fn a_loaded_window_in_designs() {
+    let hann = Window::Cosines(Cosines::load(&[0.5, 0.5]).unwrap());
+    plain(
+        lent::<8, _>(|out| lowpass(NAN, 0.0, hann, out)),
+        Reason::Rate,
+    );
+    plain(lowpass_new(NAN, NAN, hann, 0), Reason::Rate);
+    refused(
+        lent::<8, _>(|out| lowpass(4000.0, 8000.0, hann, out)),
+        Reason::Frequency,
+        range(0.0, 4000.0, 4000.0),
+    );
+    refused(
+        lowpass_new(0.0, 8000.0, hann, 0),
+        Reason::Frequency,
+        range(0.0, 4000.0, 0.0),
+    );
+    plain(lowpass(0.25, 1.0, hann, &mut []), Reason::Count);
+    plain(lowpass_new(0.25, 1.0, hann, (1 << 24) + 1), Reason::Count);
+    plain(
+        lent::<2, _>(|out| lowpass(0.25, 1.0, hann, out)),
+        Reason::Divisor,
+    );
+    plain(lowpass_new(0.25, 1.0, hann, 2), Reason::Divisor);
+    // The zeros that a refused load leaves, and a record that no load gave.
+    let report = raw::pel_lowpass_cosines_new(0.25, 1.0, raw::Cosines::default(), 31);
+    assert_eq!(report.number, raw::BAD_SUM);
+    let forged = raw::Cosines {
+        c0: NAN,
+        ..raw::Cosines::default()
+    };
+    assert_eq!(
+        raw::pel_lowpass_cosines_new(0.25, 1.0, forged, 31).number,
+        raw::BAD_SUM
+    );
+    assert_eq!(
+        raw::pel_lowpass_cosines(0.25, 1.0, forged, &mut [0; 9]).number,
+        raw::BAD_LENGTH
+    );
+
+    plain(
+        lent::<8, _>(|out| Lowpass::new(1000.0, 8000.0, hann, out)),
+        Reason::Code,
+    );
+    plain(
+        lent::<0, _>(|out| Lowpass::new(NAN, NAN, hann, out)),
+        Reason::Code,
+    );
+}
+
 #[test]
 fn eleven_an_element_after_a_prefix() {
     refused(q15_tap(1.01), Reason::Element, q15_element(0, 1.01));
@@ -639,6 +779,19 @@ fn in_words() {
     assert_eq!(
         told(halfband_new(1e3, 7)),
         "refused with 16: a Bessel series of Kaiser's window doesn't settle: take a beta of 713, or 6478 dB, at most"
+    );
+    assert_eq!(
+        told(Cosines::load(&[0.25; 6])),
+        "refused with 17: a cosine window has one to five coefficients (smallest 1.0, largest 5.0, offered 6.0)"
+    );
+    assert_eq!(
+        told(Cosines::load(&[0.25, 1.5])),
+        "refused with 18: a coefficient isn't finite, or its size is above 1 \
+         (smallest -1.0, largest 1.0, offered 1.5)"
+    );
+    assert_eq!(
+        told(Cosines::load(&[0.25, 0.5])),
+        "refused with 19: the coefficients don't add up to 1: their exact sum may be off by 2^-40 at most"
     );
     // It is an error like any other.
     let boxed: Box<dyn std::error::Error + Send + Sync> = Box::new(delay(0).unwrap_err());
