@@ -385,6 +385,69 @@ static const char style[] = "text{font-family:Helvetica,Arial,'DejaVu Sans',sans
                             ".mark{stroke-width:1.3;stroke-dasharray:5 3;fill:none}\n"
                             ".band{fill-opacity:0.16}\n";
 
+/* A letter's width in a line of the head, by the widest of the usual fonts again: digits are wide there, points and
+ * commas narrow. */
+static double width_in_head(char letter)
+{
+    return strchr(" ,.", letter) != NULL ? 4.2 : letter >= '0' && letter <= '9' ? 8.3 : 7.7;
+}
+
+/* How wide all letters are; and how many of the first fit. */
+static double head_width(const char *text)
+{
+    double width = 0.0;
+    for (; *text != '\0'; text++)
+        width += width_in_head(*text);
+    return width;
+}
+
+static size_t fitting(const char *text)
+{
+    double width = 0.0;
+    size_t k = 0;
+    while (text[k] != '\0' && (width += width_in_head(text[k])) <= COLUMNS)
+        k++;
+    return k;
+}
+
+/* A line that is still too long has smaller letters. */
+static void put_line(FILE *to, double y, const char *text)
+{
+    char form[60] = "class=\"numbers\"";
+    double width = head_width(text);
+    if (width > COLUMNS)
+        snprintf(form, sizeof form, "class=\"numbers\" style=\"font-size:%.1fpx\"", 13.0 * COLUMNS / width);
+    put_text(to, LEFT, y, form, text);
+}
+
+/* Where a line that is too long is broken: behind the last comma with a blank, if the rest fits then, else behind the
+ * last comma, also in a list; 0 where there is none. */
+static size_t break_in(const char *text)
+{
+    size_t option = 0, entry = 0, most = fitting(text);
+    for (size_t k = 0; k < most; k++)
+        if (text[k] == ',') {
+            entry = k + 1;
+            option = text[k + 1] == ' ' ? k + 1 : option;
+        }
+    return head_width(text + option) <= COLUMNS ? option : entry;
+}
+
+/* In two lines where one is too short for them, such as for a window's coefficients. */
+static void put_numbers(FILE *to, const struct picture *p)
+{
+    size_t at = head_width(p->numbers) <= COLUMNS ? 0 : break_in(p->numbers);
+    if (at == 0) {
+        put_line(to, 60, p->numbers);
+        return;
+    }
+    char first[sizeof p->numbers];
+    memcpy(first, p->numbers, at);
+    first[at] = '\0';
+    put_line(to, 55, first);
+    put_line(to, 72, p->numbers + at + strspn(p->numbers + at, " "));
+}
+
 void draw(FILE *to, const struct picture *p)
 {
     fputs("<?xml version=\"1.0\" encoding=\"UTF-8\"?>\n", to);
@@ -395,11 +458,7 @@ void draw(FILE *to, const struct picture *p)
     fprintf(to, "</title>\n<style>\n%s</style>\n", style);
     fprintf(to, "<rect width=\"%d\" height=\"%d\" fill=\"#fff\"/>\n", WIDTH, HEIGHT);
     put_text(to, LEFT, 36, "class=\"title\"", p->title);
-    /* A line too long for the picture is pressed into it. */
-    put_text(to, LEFT, 60,
-             strlen(p->numbers) <= 115 ? "class=\"numbers\""
-                                       : "class=\"numbers\" textLength=\"804\" lengthAdjust=\"spacingAndGlyphs\"",
-             p->numbers);
+    put_numbers(to, p);
     draw_samples(to, p);
     draw_magnitudes(to, p);
     fputs("</svg>\n", to);
