@@ -11,6 +11,7 @@
 #include "files.h"
 #include "help.h"
 #include "kinds.h"
+#include "lists.h"
 #include "name.h"
 
 /* Exit statuses beside the refusals' numbers: the words were wrong, the machine failed. */
@@ -19,7 +20,7 @@ enum { USAGE = 64, FAILED = 74 };
 /* ---- What is said ----------------------------------------------------------------------------- */
 
 /* The forms that exclude each other, as in [--q15 | --f32]. */
-static void say_forms(FILE *to, unsigned set)
+static void say_forms(FILE *to, option_set set)
 {
     const char *name, *lead = " [";
     for (int i = 0; (name = option_of(set, i)) != NULL; i++) {
@@ -112,7 +113,7 @@ static int explain(const struct kind *k, const struct ticket *t, pel_report r)
 static void say_origin(FILE *to, const struct kind *k, const struct ticket *t)
 {
     fprintf(to, "/* %s %s", program_name(), k->name);
-    say_options(to, t, ~(unsigned)EVERY, " ", 0);
+    say_options(to, t, ~(option_set)EVERY, " ", 0);
     fputs(" */\n", to);
 }
 
@@ -222,15 +223,15 @@ static int design(const struct kind *k, struct ticket *t)
 
 /* ---- From words to a kind --------------------------------------------------------------------- */
 
-static unsigned options_in(const struct kind *k)
+static option_set options_in(const struct kind *k)
 {
     return k->needs | k->may | form_options(k->forms) | EVERY;
 }
 
 /* The options of every row of a name; 0 for an unknown one. */
-static unsigned options_of(const char *name)
+static option_set options_of(const char *name)
 {
-    unsigned set = 0;
+    option_set set = 0;
     for (size_t k = 0; k < KINDS; k++)
         if (strcmp(name, kinds[k].name) == 0)
             set |= options_in(&kinds[k]);
@@ -238,7 +239,7 @@ static unsigned options_of(const char *name)
 }
 
 /* The first row of a name that has every option given. */
-static const struct kind *row_for(const char *name, unsigned given)
+static const struct kind *row_for(const char *name, option_set given)
 {
     for (size_t k = 0; k < KINDS; k++)
         if (strcmp(name, kinds[k].name) == 0 && (given & ~options_in(&kinds[k])) == 0)
@@ -266,7 +267,7 @@ static bool asks_for_help(int n, char **word)
 /* What is wrong with options that are each good: 0, or the status after saying it. */
 static int judge_together(const struct kind *k, const struct ticket *t)
 {
-    unsigned forms = t->given & form_options(k->forms);
+    option_set forms = t->given & form_options(k->forms);
     if (option_of(forms, 1) != NULL)
         return complain(k->name, "%s and %s exclude each other", option_of(forms, 0), option_of(forms, 1));
     if (form_for(k->forms, t->given)->instead != NULL && t->form != AS_TEXT)
@@ -275,8 +276,10 @@ static int judge_together(const struct kind *k, const struct ticket *t)
         return complain(k->name, "--name goes with --form c only");
     if ((t->given & OUT) != 0 && (t->given & PLOT) != 0 && strcmp(t->out, t->plot) == 0)
         return complain(k->name, "--out and --plot name the same file");
-    /* Kaiser's window is the only one with a shape to give. */
-    unsigned needs = k->needs | (t->window == PEL_KAISER ? BETA : 0);
+    if ((t->given & COEFFICIENTS) != 0 && t->window != OWN_WINDOW)
+        return complain(k->name, "--coefficients goes with --window cosines only");
+    /* Kaiser's window is the only one with a shape to give, and a customer's own is its coefficients. */
+    option_set needs = k->needs | (t->window == PEL_KAISER ? BETA : t->window == OWN_WINDOW ? COEFFICIENTS : 0);
     const char *missing = option_of(needs & ~t->given, 0);
     return missing != NULL ? complain(k->name, "missing: %s", missing) : 0;
 }
@@ -297,7 +300,7 @@ int main(int argc, char **argv)
         return said();
     }
     const char *name = argv[1];
-    unsigned allowed = options_of(name);
+    option_set allowed = options_of(name);
     if (allowed == 0)
         return complain(NULL, "unknown kind %s", name);
     if (asks_for_help(argc - 2, argv + 2)) {
@@ -313,5 +316,15 @@ int main(int argc, char **argv)
     if (k == NULL)
         return complain(name, "the options belong to two ways of asking for a %s", name);
     int status = judge_together(k, &t);
-    return status != 0 ? status : design(k, &t);
+    if (status != 0)
+        return status;
+    uint8_t *numbers = bytes_of_list(t.coefficients != NULL ? t.coefficients : "", &t.numbers_bytes);
+    if (numbers == NULL) {
+        fprintf(stderr, "%s: no memory for %zu coefficients\n", program_name(), t.numbers_bytes / 8);
+        return FAILED;
+    }
+    t.numbers = numbers;
+    status = design(k, &t);
+    free(numbers);
+    return status;
 }

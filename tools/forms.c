@@ -8,8 +8,6 @@
 #include <stdlib.h>
 #include <string.h>
 
-#include "words.h"
-
 /* ---- Numbers in words -------------------------------------------------------------------------- */
 
 static double read_f64(const char *text)
@@ -184,15 +182,15 @@ const struct form window_forms[] = {
     {0, 0, 0, NULL, NULL, NULL},
 };
 
-unsigned form_options(const struct form *forms)
+option_set form_options(const struct form *forms)
 {
-    unsigned set = 0;
+    option_set set = 0;
     for (; forms->filled != 0; forms++)
         set |= forms->option;
     return set;
 }
 
-const struct form *form_for(const struct form *forms, unsigned given)
+const struct form *form_for(const struct form *forms, option_set given)
 {
     const struct form *asked = forms;
     for (; forms->filled != 0; forms++)

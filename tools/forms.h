@@ -8,6 +8,7 @@
 #include <stdio.h>
 
 #include "peldozkar.h"
+#include "words.h"
 
 /* Room for any number that is said. */
 struct words {
@@ -27,7 +28,7 @@ struct number {
 };
 
 struct form {
-    unsigned option;          /* what asks for it; 0 for the form without an option */
+    option_set option;        /* what asks for it; 0 for the form without an option */
     size_t filled, converted; /* bytes of a number as a kind fills it in, and as converted; 0 where it isn't */
     pel_report (*convert)(const uint8_t *source, size_t source_bytes, uint8_t *out, size_t bytes);
     const struct number *number;
@@ -39,10 +40,10 @@ struct form {
 extern const struct form tap_forms[], section_forms[], preemphasis_forms[], window_forms[];
 
 /* All options of the forms. */
-unsigned form_options(const struct form *forms);
+option_set form_options(const struct form *forms);
 
 /* The form that the options given ask for. */
-const struct form *form_for(const struct form *forms, unsigned given);
+const struct form *form_for(const struct form *forms, option_set given);
 
 /* One number a line, or what the form says instead. */
 void print_text(FILE *to, const struct form *f, const uint8_t *bytes, size_t n);

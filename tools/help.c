@@ -22,11 +22,15 @@ static const struct help helps[] = {
     {"lowpass", "a low-pass filter by its cutoff, a window and a number of taps",
      "  --cutoff HZ        where the response is down to a half; above 0 and below half the rate\n" RATE_HELP
      "  --taps N           how many taps; 1 to 2^24\n"
-     "  --window W         hann, hamming (if not said), blackman or kaiser\n"
+     "  --window W         hann, hamming (if not said), blackman, kaiser or cosines\n"
      "  --beta B           the shape of Kaiser's window, which needs it; finite and not negative, and its series\n"
      "                     settles up to about 714\n"
+     "  --coefficients C   the numbers c0 to c4 of the window cosines, which needs them: one to five, with commas\n"
+     "                     between, each from -1 to 1, their sum within 2^-40 of 1; at tap i of n, with\n"
+     "                     x = 2 pi i/(n - 1), it is c0 - c1 cos(x) + c2 cos(2x) - c3 cos(3x) + c4 cos(4x)\n"
      "  --turns LIST       then turn the knob: cutoff=HZ, cutoff=HZ@RATE or beta=B, with commas between; the taps are\n"
-     "                     those of the last turn, and a turn that is refused is told with its words\n" TAP_HELP,
+     "                     those of the last turn, and a turn that is refused is told with its words; the window\n"
+     "                     cosines has no knob\n" TAP_HELP,
      "lowpass --cutoff 1000 --rate 8000 --taps 31 --window kaiser --beta 5.65326"},
     {"spec", "a low-pass filter by what it has to do, with as many taps as that needs",
      "  --cutoff HZ        the middle of the transition; above 0, and half the transition or more below half\n"

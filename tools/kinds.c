@@ -5,6 +5,7 @@
 #include <stdbool.h>
 #include <stdio.h>
 
+#include "lists.h"
 #include "turns.h"
 
 /* Said of more kinds than one. */
@@ -64,9 +65,16 @@ static pel_report counted(uint64_t n)
 
 /* ---- Low-pass and half-band filters ------------------------------------------------------------ */
 
+/* A customer's own window is loaded first. The knob has no code for it, and says so before anything else. */
 static pel_report judge_lowpass(struct ticket *t)
 {
-    return pel_lowpass_new(t->cutoff, t->rate, t->window, t->beta, t->taps);
+    if (t->window != OWN_WINDOW || t->turns != NULL)
+        return pel_lowpass_new(t->cutoff, t->rate, t->window, t->beta, t->taps);
+    pel_loaded l = pel_load_cosines(t->numbers, t->numbers_bytes);
+    if (l.report.number != PEL_ACCEPTED)
+        return l.report;
+    t->own = l.window;
+    return pel_lowpass_cosines_new(t->cutoff, t->rate, t->own, t->taps);
 }
 
 /* The turn that was refused, in its list; without letters where none was. */
@@ -75,6 +83,8 @@ static struct turn refused;
 /* The design, and then its knob turned through the list, up to a turn that is refused. */
 static pel_report fill_lowpass(const struct ticket *t, uint8_t *out, size_t bytes)
 {
+    if (t->window == OWN_WINDOW)
+        return pel_lowpass_cosines(t->cutoff, t->rate, t->own, out, bytes);
     const char *list = t->turns != NULL ? t->turns : "";
     struct turn turn = {.rate = t->rate};
     pel_tuned k = pel_design_lowpass(t->cutoff, t->rate, t->window, t->beta, out, bytes);
@@ -89,6 +99,31 @@ static pel_report fill_lowpass(const struct ticket *t, uint8_t *out, size_t byte
     return k.report;
 }
 
+/* Which number of the list it is, as the formula calls it and as it stands there. */
+static const char *outside(const char *list)
+{
+    static char text[100];
+    double x = 0.0;
+    int k = 0;
+    while (take_listed(&list, &x) && pel_fabs(x) <= 1.0)
+        k++;
+    snprintf(text, sizeof text, "a coefficient must be finite and from -1 to 1, and c%d, number %d of them, isn't", k,
+             k + 1);
+    return text;
+}
+
+/* The sum as far as a double tells it: what is judged is the exact one. */
+static const char *off_one(const char *list)
+{
+    static const char rule[] = "the coefficients must add up to 1, or miss it by 2^-40 (about 9.09e-13) at most";
+    static char text[200];
+    double x, sum = 0.0;
+    while (take_listed(&list, &x))
+        sum += x;
+    snprintf(text, sizeof text, "%s; as far as a double tells, they add up to %s", rule, words_of(sum).text);
+    return text;
+}
+
 static const char *lowpass_meaning(const struct ticket *t, uint32_t number)
 {
     switch (number) {
@@ -99,9 +134,16 @@ static const char *lowpass_meaning(const struct ticket *t, uint32_t number)
     case PEL_BAD_COUNT:
         return "the number of taps must be from 1 to 2^24";
     case PEL_BAD_CODE:
-        return "only Kaiser's window has a beta to turn";
+        return t->window == OWN_WINDOW ? "a window of --coefficients has no knob: leave --turns out, and design anew"
+                                       : "only Kaiser's window has a beta to turn";
     case PEL_NOT_SETTLED:
         return unsettled_beta(refused.beta ? refused.to : t->beta);
+    case PEL_BAD_COEFFICIENT_COUNT:
+        return "a window has one to five coefficients";
+    case PEL_BAD_COEFFICIENT:
+        return outside(t->coefficients);
+    case PEL_BAD_COEFFICIENT_SUM:
+        return off_one(t->coefficients);
     default:
         return common_meaning(number);
     }
@@ -408,9 +450,11 @@ static const char *mean_window(const struct ticket *t, const pel_report *r)
 #define RESPONSE_USAGE "--response lowpass|highpass|bandpass|notch"
 
 const struct kind kinds[KINDS] = {
-    {"lowpass", "--cutoff HZ --rate HZ --taps N [--window hann|hamming|blackman|kaiser] [--beta B] [--turns LIST]",
-     CUTOFF | RATE | TAPS, WINDOW | BETA | (unsigned)TURNS, "taps", tap_forms, TAP_PARTS, show_lowpass, judge_lowpass,
-     fill_lowpass, mean_lowpass},
+    {"lowpass",
+     "--cutoff HZ --rate HZ --taps N [--window hann|hamming|blackman|kaiser|cosines] [--beta B] [--coefficients C] "
+     "[--turns LIST]",
+     CUTOFF | RATE | TAPS, WINDOW | BETA | COEFFICIENTS | TURNS, "taps", tap_forms, TAP_PARTS, show_lowpass,
+     judge_lowpass, fill_lowpass, mean_lowpass},
     {"spec", "--cutoff HZ --transition HZ --attenuation DB --rate HZ [--max-taps N]",
      CUTOFF | TRANSITION | ATTENUATION | RATE, MAX_TAPS, "taps", tap_forms, TAP_PARTS, show_spec, judge_spec, fill_spec,
      mean_spec},

@@ -13,7 +13,7 @@
 /* One way to ask for coefficients. Two rows of a name are two sets of options for one kind. */
 struct kind {
     const char *name, *usage;
-    unsigned needs, may;      /* options that must stand, and those that may besides */
+    option_set needs, may;    /* options that must stand, and those that may besides */
     const char *numbers;      /* what the numbers are called, */
     const struct form *forms; /* the forms that they can be printed in, */
     enum parts parts;         /* what they are, and what a picture shows beside them */

@@ -22,7 +22,7 @@ struct subject {
     const struct ticket *ticket;
     show_kind *show;
     enum parts parts;
-    unsigned said;      /* the options told in the picture's head */
+    option_set said;    /* the options told in the picture's head */
     const char *format; /* what the numbers were rounded to; null where they weren't */
     const double *numbers;
     size_t n;

@@ -1,30 +1,7 @@
 /* Takes a list of turns apart, one at a time; whether a number is a good one is the designer's to judge. */
 #include "turns.h"
 
-#include <ctype.h>
-#include <stdlib.h>
-#include <string.h>
-
-static bool take_word(const char **at, const char *word)
-{
-    size_t n = strlen(word);
-    if (strncmp(*at, word, n) != 0)
-        return false;
-    *at += n;
-    return true;
-}
-
-/* A number as elsewhere on the command line, with nothing blank before it. */
-static bool take_number(const char **at, double *x)
-{
-    if (isspace((unsigned char)**at))
-        return false;
-    char *end;
-    *x = strtod(*at, &end);
-    bool taken = end != *at;
-    *at = end;
-    return taken;
-}
+#include "lists.h"
 
 bool take_turn(const char **list, struct turn *t)
 {
@@ -37,8 +14,7 @@ bool take_turn(const char **list, struct turn *t)
     if (!take_number(&at, &next.to) || (!next.beta && take_word(&at, "@") && !take_number(&at, &next.rate)))
         return false;
     next.letters = (int)(at - next.word);
-    /* A comma stands between two turns, and not at the end. */
-    if (*at != '\0' && !(take_word(&at, ",") && *at != '\0'))
+    if (!take_end(&at))
         return false;
     *t = next;
     *list = at;

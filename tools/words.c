@@ -11,24 +11,26 @@
 #include <string.h>
 
 #include "forms.h"
+#include "lists.h"
 #include "turns.h"
 
-enum reading { NUMBER, COUNT, NAME, IDENTIFIER, PATH, LIST, ALONE };
+enum reading { NUMBER, COUNT, NAME, IDENTIFIER, PATH, LIST, NUMBERS, ALONE };
 
 /* What an option can be called, in the order of the header's codes, up to a null. */
 struct names {
     const char *unknown; /* said of another word */
-    const char *name[5];
+    const char *name[6];
 };
 
-static const struct names windows = {"unknown window:", {"hann", "hamming", "blackman", "kaiser"}};
+/* And behind them OWN_WINDOW. */
+static const struct names windows = {"unknown window:", {"hann", "hamming", "blackman", "kaiser", "cosines"}};
 static const struct names responses = {"unknown response:", {"lowpass", "highpass", "bandpass", "notch"}};
 static const struct names symmetries = {"unknown symmetry:", {"periodic", "symmetric"}};
 static const struct names forms = {"unknown form:", {"text", "c", "raw"}};
 
 static const struct option {
     const char *name;
-    unsigned bit;
+    option_set bit;
     enum reading reading;
     size_t place; /* where the ticket keeps it; nothing is kept of an option that stands alone */
     const struct names *names;
@@ -41,7 +43,8 @@ static const struct option {
     {"--max-taps", MAX_TAPS, COUNT, offsetof(struct ticket, max_taps), NULL},
     {"--window", WINDOW, NAME, offsetof(struct ticket, window), &windows},
     {"--beta", BETA, NUMBER, offsetof(struct ticket, beta), NULL},
-    {"--turns", (unsigned)TURNS, LIST, offsetof(struct ticket, turns), NULL},
+    {"--coefficients", COEFFICIENTS, NUMBERS, offsetof(struct ticket, coefficients), NULL},
+    {"--turns", TURNS, LIST, offsetof(struct ticket, turns), NULL},
     {"--bt", BT, NUMBER, offsetof(struct ticket, bt), NULL},
     {"--rolloff", ROLLOFF, NUMBER, offsetof(struct ticket, rolloff), NULL},
     {"--samples", SAMPLES, COUNT, offsetof(struct ticket, samples), NULL},
@@ -151,13 +154,16 @@ static const char *read_value(const struct option *o, const char *word, struct t
     case LIST:
         *(const char **)place = word;
         return is_list(word) ? NULL : "not turns such as cutoff=1200,beta=8 or cutoff=1200@48000:";
+    case NUMBERS:
+        *(const char **)place = word;
+        return is_listed(word) ? NULL : "not numbers with commas between, such as 0.42,0.5,0.08:";
     case ALONE:
         break;
     }
     return NULL;
 }
 
-static const struct option *find(const char *word, unsigned allowed)
+static const struct option *find(const char *word, option_set allowed)
 {
     for (size_t k = 0; k < OPTIONS; k++)
         if ((options[k].bit & allowed) != 0 && strcmp(word, options[k].name) == 0)
@@ -165,7 +171,7 @@ static const struct option *find(const char *word, unsigned allowed)
     return NULL;
 }
 
-struct complaint take_words(int n, char **word, unsigned allowed, struct ticket *t)
+struct complaint take_words(int n, char **word, option_set allowed, struct ticket *t)
 {
     for (int i = 0; i < n; i++) {
         const struct option *o = find(word[i], allowed);
@@ -186,6 +192,16 @@ struct complaint take_words(int n, char **word, unsigned allowed, struct ticket 
     return (struct complaint){NULL, NULL};
 }
 
+/* Each with the digits that name it, whatever the word's were. */
+static void say_list(FILE *to, const char *list)
+{
+    double x;
+    for (const char *lead = ""; take_listed(&list, &x); lead = ",") {
+        fputs(lead, to);
+        say_number(to, x);
+    }
+}
+
 static void say_value(FILE *to, const struct ticket *t, const struct option *o)
 {
     const void *place = (const char *)t + o->place;
@@ -199,9 +215,11 @@ static void say_value(FILE *to, const struct ticket *t, const struct option *o)
         fputs(o->names->name[*(const uint64_t *)place], to);
     if (o->reading == IDENTIFIER || o->reading == PATH || o->reading == LIST)
         fputs(*(const char *const *)place, to);
+    if (o->reading == NUMBERS)
+        say_list(to, *(const char *const *)place);
 }
 
-void say_options(FILE *to, const struct ticket *t, unsigned set, const char *lead, int skip)
+void say_options(FILE *to, const struct ticket *t, option_set set, const char *lead, int skip)
 {
     for (size_t k = 0; k < OPTIONS; k++)
         if ((options[k].bit & set & t->given) != 0) {
@@ -210,7 +228,7 @@ void say_options(FILE *to, const struct ticket *t, unsigned set, const char *lea
         }
 }
 
-const char *option_of(unsigned set, int i)
+const char *option_of(option_set set, int i)
 {
     for (size_t k = 0; k < OPTIONS; k++)
         if ((options[k].bit & set) != 0 && i-- == 0)

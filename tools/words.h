@@ -5,7 +5,10 @@
 #include <stdint.h>
 #include <stdio.h>
 
+#include "peldozkar.h"
+
 /* A set of options is a sum of these. */
+typedef uint64_t option_set;
 enum {
     CUTOFF = 1 << 0,
     RATE = 1 << 1,
@@ -39,13 +42,17 @@ enum {
     FORM = 1 << 27,
     ARRAY = 1 << 28,
     OUT = 1 << 29,
-    PLOT = 1 << 30,
-    /* The last of 32 bits, which an enum's constant has as its sign. */
-    TURNS = -0x7FFFFFFF - 1
+    PLOT = 1 << 30
 };
+/* Of a low-pass, past the bits that an enum's constant has. */
+#define TURNS ((option_set)1 << 31)
+#define COEFFICIENTS ((option_set)1 << 32)
 
 /* The options that every kind has. */
 enum { EVERY = FORM | ARRAY | OUT | PLOT };
+
+/* What --window cosines is beside the header's codes of windows: the first that the header hasn't. */
+enum { OWN_WINDOW = PEL_KAISER + 1 };
 
 /* The codes of --form. */
 enum { AS_TEXT = 0, AS_C = 1, AS_RAW = 2 };
@@ -54,8 +61,12 @@ enum { AS_TEXT = 0, AS_C = 1, AS_RAW = 2 };
 struct ticket {
     double cutoff, rate, transition, attenuation, beta, bt, passband, stopband, rolloff, centre, q, tau;
     uint64_t taps, max_taps, window, samples, span, channels, branch, response, order, symmetry, form;
-    const char *array, *out, *plot, *turns;
-    unsigned given;
+    const char *array, *out, *plot, *turns, *coefficients;
+    option_set given;
+    /* The numbers of --coefficients, and the window that they make once they are judged. */
+    const uint8_t *numbers;
+    size_t numbers_bytes;
+    pel_cosines own;
 };
 
 /* What is wrong, and with which word; `what` is null where nothing is. */
@@ -64,13 +75,13 @@ struct complaint {
 };
 
 /* Takes the options apart; those outside `allowed` are unknown words. */
-struct complaint take_words(int n, char **word, unsigned allowed, struct ticket *t);
+struct complaint take_words(int n, char **word, option_set allowed, struct ticket *t);
 
 /* The options of a set that were given, in one order whatever that of the words: each after `lead`, without the
  * first `skip` letters of its name, and its value behind a blank, with digits that name the very number. */
-void say_options(FILE *to, const struct ticket *t, unsigned set, const char *lead, int skip);
+void say_options(FILE *to, const struct ticket *t, option_set set, const char *lead, int skip);
 
 /* The name of option i of a set, counted from 0; null where the set has no more. */
-const char *option_of(unsigned set, int i);
+const char *option_of(option_set set, int i);
 
 #endif
