@@ -142,6 +142,11 @@ def hamming(i, n):
     return D("0.54") - D("0.46") * cos(2 * PI * i / n)
 
 
+def blackman(i, n):
+    a = 2 * PI * i / n
+    return D("0.42") - D("0.5") * cos(a) + D("0.08") * cos(2 * a)
+
+
 def blackman_harris(i, n):
     a = 2 * PI * i / n
     return D("0.35875") - D("0.48829") * cos(a) + D("0.14128") * cos(2 * a) - D("0.01168") * cos(3 * a)
@@ -166,6 +171,27 @@ class Kaiser:
             raise Refused(4)
         if n != 0 and not all(map(settled, [self.beta, *(self.argument(i, n) for i in range(elements))])):
             raise Refused(16)
+
+
+class Cosines:
+    """A customer's own window of these numbers in text, each taken as the double next to it; the sum is exact. It is 1
+    where n, the length divisor, is 0."""
+
+    def __init__(self, *numbers):
+        doubles = [F(float(x)) for x in numbers]
+        if not 1 <= len(doubles) <= 5:
+            raise Refused(17, 1, 5, len(doubles))
+        for x in doubles:
+            if abs(x) > 1:
+                raise Refused(18, -1, 1, x)
+        if abs(sum(doubles) - 1) > F(1, 2**40):
+            raise Refused(19)
+        self.numbers = [real(x) for x in doubles]
+
+    def __call__(self, i, n):
+        if n == 0:
+            return D(1)
+        return sum((-1) ** k * c * cos(2 * PI * i * k / n) for k, c in enumerate(self.numbers))
 
 
 # ---- Kaiser's formulas
@@ -491,6 +517,45 @@ def print_retune():
         except Refused as refused:
             yield f"beta {turned}: refused with {refused.number}; the taps stay"
     yield f"at the end cutoff {cutoff}, beta {beta}, the series at beta {show(bessel_i0(D(beta)), 4)}"
+
+
+def print_cosines():
+    taps_of = {}
+
+    def load(name, *numbers):
+        try:
+            window = Cosines(*numbers)
+        except Refused as refused:
+            if refused.number == 19:
+                return f"{name}: refused with 19: the coefficients don't add up to 1"
+            words = {17: "{} coefficients aren't {} to {}", 18: "{} isn't from {} to {}"}[refused.number]
+            return f"{name}: " + refused_range(words, refused)
+        taps_of[name] = lowpass(1000, 8000, window, 63)
+        return f"{name}: loaded, {len(numbers)} coefficients"
+
+    def tell(name):
+        def passed(f):
+            return abs(sum(t * cos(2 * PI * f * (i - 31) / 8000) for i, t in enumerate(taps_of[name])))
+
+        shown = [show(passed(800), 4), show(passed(1000), 4), show(passed(1200), 4), show(passed(1500), 6)]
+        return f"{name}: " + "passes {} of 800 Hz, {} of 1000, {} of 1200, {} of 1500".format(*shown)
+
+    rest = "0.41663158", "0.277263158", "0.083578947", "0.006947368"
+    yield load("Nuttall", "0.355768", "0.487396", "0.144232", "0.012604")
+    yield tell("Nuttall")
+    yield load("a printed flat top", "0.21557895", *rest)
+    yield load("a flat top", "0.215578947", *rest)
+    yield tell("a flat top")
+    yield load("Blackman", "0.42", "0.5", "0.08")
+    yield tell("Blackman")
+    # By decimals, which are off the doubles by less than 1e-16.
+    coded = lowpass(1000, 8000, blackman, 63)
+    if all(abs(x - y) < D("1e-15") for x, y in zip(taps_of["Blackman"], coded)):
+        yield "Blackman by its code: the same taps"
+    yield load("six numbers", "0.5", "0.5", "0", "0", "0", "0")
+    yield load("a steep one", "0.5", "-0.25", "0.25", "-0.5", "1.25")
+    if refusal_of(lowpass, 1000, 8000, lambda i, n: D(0), 63).number == 10:
+        yield "what it left: refused with 10: the taps add up to 0"
 
 
 def print_spec():

@@ -1,4 +1,5 @@
-/* Numbers out of the little-endian bytes that the library writes, whatever the machine's own order. */
+/* Numbers out of the little-endian bytes that the library writes, and into those that it reads, whatever the machine's
+ * own order. */
 #ifndef TAPS_H
 #define TAPS_H
 
@@ -35,6 +36,15 @@ static inline int i16_at(const uint8_t *bytes, size_t i)
 {
     int bits = (int)bits_at(bytes + 2 * i, 2);
     return bits < 32768 ? bits : bits - 65536;
+}
+
+/* A double as number i of a buffer. */
+static inline void put_f64(uint8_t *bytes, size_t i, double x)
+{
+    uint64_t bits;
+    memcpy(&bits, &x, sizeof bits);
+    for (size_t k = 0; k < 8; k++)
+        bytes[8 * i + k] = (uint8_t)(bits >> 8 * k);
 }
 
 #endif
