@@ -38,7 +38,7 @@
 //! tap raises "invalid".
 //!
 //! On the stack the exports behind [`lowpass`], [`Lowpass`], [`Spec::design`], [`halfband`], [`gaussian`] and
-//! [`channelizer_prototype`] take 9,120 bytes at most, the others under 1,000; the repository's `docs/FUNCTIONS.md` has
+//! [`channelizer_prototype`] take 9,504 bytes at most, the others under 1,100; the repository's `docs/FUNCTIONS.md` has
 //! the bytes of each.
 //!
 //! # What is proved, and what isn't
