@@ -606,6 +606,34 @@ def odd_orders(port):
                              np.full(len(w), float(1 / m)))
 
 
+
+# ---- loaded windows ---------------------------------------------------------------------------------
+
+# Blackman and Harris's window, Nuttall's, and a flat top whose digits add up to 1.
+OWN = [[0.35875, 0.48829, 0.14128, 0.01168], [0.355768, 0.487396, 0.144232, 0.012604],
+       [0.215578947, 0.41663158, 0.277263158, 0.083578947, 0.006947368]]
+
+
+def own_numbers():
+    """One to five numbers that fall off, and add up to 1 as near as doubles come."""
+    sizes = random.uniform(0.1, 1, int(random.integers(1, 6)))
+    sizes *= 0.5 ** np.arange(len(sizes))
+    return (sizes / sizes.sum()).tolist()
+
+
+def loaded(port):
+    # Two more cosines at most than Blackman's, each with a product and an addition, 1 at most in size, on either side.
+    held = Held("lowpass, loaded", "signal.firwin", "of the largest", summed(1000) + 8 * u)
+    for numbers in OWN + [own_numbers() for _ in range(300)]:
+        window = port.loaded(numbers)
+        for n in (3, count(4, 1000)):
+            rate = spread(1, 1e9)
+            cutoff = random.uniform(0.001, 0.499) * rate
+            held.add(f"{n} taps, cutoff {cutoff!r}, rate {rate!r}, coefficients {numbers}",
+                     port.made("lowpass_cosines", "<f8", n, cutoff, rate, window),
+                     signal.firwin(n, cutoff, window=("general_cosine", numbers), fs=rate))
+
+
 def main():
     parser = argparse.ArgumentParser()
     parser.add_argument("library")
@@ -614,7 +642,7 @@ def main():
     Held.wrong = words.wrong
     port = Port(words.library)
     for part in (elementary, kaiser, lowpass, halfband, channelizer, gaussian, rrc, sections, formats, windows,
-                 long_ones, delays, odd_orders):
+                 long_ones, delays, odd_orders, loaded):
         part(port)
     if words.wrong and words.wrong not in [held.name for held in Held.rows]:
         sys.exit(f"no comparison is named {words.wrong!r}")

@@ -17,18 +17,27 @@ class GainReport(ctypes.Structure):
                 ("count", c_uint64), ("gain", c_double), ("bandwidth", c_double)]
 
 
-assert ctypes.sizeof(Report) == 72 and ctypes.sizeof(GainReport) == 48 and sys.byteorder == "little"
+class Cosines(ctypes.Structure):
+    _fields_ = [(name, c_double) for name in ("c0", "c1", "c2", "c3", "c4")]
+
+
+class Loaded(ctypes.Structure):
+    _fields_ = [("window", Cosines), ("report", Report)]
+
+
+assert ctypes.sizeof(Loaded) == 112 and ctypes.sizeof(Report) == 72 and ctypes.sizeof(GainReport) == 48 and sys.byteorder == "little"
 
 HANN, HAMMING, BLACKMAN, KAISER = range(4)
 LOWPASS, HIGHPASS, BANDPASS, NOTCH = range(4)
 PERIODIC, SYMMETRIC = range(2)
 
-# The arguments before a buffer: d a double, u a uint64, s a source of bytes and its length; > a buffer and its length.
+# The arguments before a buffer: d a double, u a uint64, c a loaded window, s a source of bytes and its length; > a buffer and its length.
 SIGNATURES = {
     "floor": (c_double, "d"), "ceil": (c_double, "d"), "fabs": (c_double, "d"), "sqrt": (c_double, "d"),
     "sin": (c_double, "d"), "cos": (c_double, "d"), "exp": (c_double, "d"), "pow04": (c_double, "d"),
     "bessel_i0": (Report, "d"), "kaiser_beta": (c_double, "d"), "kaiserord": (Report, "ddd"),
     "halfband_len": (Report, "ddd"), "delay": (Report, "u"), "lowpass": (Report, "ddud>"),
+    "load_cosines": (Loaded, "s"), "lowpass_cosines": (Report, "ddc>"),
     "spec_num_taps": (Report, "ddddu"), "spec_design": (Report, "ddddu>"), "halfband": (Report, "d>"),
     "gaussian": (Report, "duu>"), "rrc": (Report, "duu>"), "channelizer_taps": (Report, "uddd"),
     "channelizer_taps_per_branch": (Report, "uddd"), "channelizer_prototype": (Report, "uuddd>"),
@@ -39,7 +48,7 @@ SIGNATURES = {
     "blackman_harris_q15": (Report, "u>"), "kaiser_f32": (Report, "du>"), "kaiser_q15": (Report, "du>"),
     "window_gain": (GainReport, "s"),
 }
-TYPES = {"d": [c_double], "u": [c_uint64], "s": [c_void_p, c_size_t], ">": [c_void_p, c_size_t]}
+TYPES = {"d": [c_double], "u": [c_uint64], "c": [Cosines], "s": [c_void_p, c_size_t], ">": [c_void_p, c_size_t]}
 
 
 class Port:
@@ -81,6 +90,14 @@ class Port:
     def convert(self, name, kind, source):
         source = np.ascontiguousarray(source, np.float64)
         return self.fill(name, kind, len(source), source.ctypes.data, source.nbytes)
+
+    def loaded(self, numbers):
+        """A window of these numbers, which must be accepted."""
+        numbers = np.ascontiguousarray(numbers, np.float64)
+        answer = self.load_cosines(numbers.ctypes.data, numbers.nbytes)
+        if answer.report.number != 0:
+            sys.exit(f"pel_load_cosines{tuple(numbers)}: refused with {answer.report.number}")
+        return answer.window
 
     def gain(self, samples):
         samples = np.ascontiguousarray(samples, np.float32)
