@@ -1,5 +1,5 @@
-// A lock maker's numbers loaded as a window, as an export. The record goes to pel_lowpass_cosines, since a window of its
-// own has no code.
+// A lock maker's numbers loaded as a window, as an export. The record goes to pel_lowpass_cosines, since a window of
+// its own has no code.
 use verdict::Refusal;
 use verdict::Report;
 use win_cosines::Loading;

@@ -1,5 +1,5 @@
-// The windowed-sinc low-pass with a loaded window, as exports: the design judged, and its taps in a buffer. Such a window
-// has no code, so its record stands in place of one.
+// The windowed-sinc low-pass with a loaded window, as exports: the design judged, and its taps in a buffer. Such a
+// window has no code, so its record stands in place of one.
 use super::told::told_lowpass;
 use super::write::write_lowpass;
 use fir_cache::CACHED;
@@ -21,8 +21,8 @@ ghost use Rattle.c_lowpass.specs.Lowpass.{lowpassCoded, lowpassBytes};
 // Judges a design with a window that pel_load_cosines gave, which isn't checked again, and gives its number of taps as
 // the count and the sum that they are divided by as the value.
 // Refused, in this order: 1 a rate that isn't finite and positive; 2 with 0, rate/2, cutoff where cutoff/rate isn't
-// between 0 and 1/2; 6 no taps or more than 2^24; 10 a sum that is 0 or not finite. Example: (0.25, 1, any window, 1) has
-// the sum 0.5.
+// between 0 and 1/2; 6 no taps or more than 2^24; 10 a sum that is 0 or not finite. Example: (0.25, 1, any window, 1)
+// has the sum 0.5.
 #[no_mangle]
 pub extern "C" fn pel_lowpass_cosines_new(
     cutoff: f64,

@@ -108,8 +108,8 @@ fn turn(s: Sides) -> Sides
     }
 }
 
-// Whether the one side is no more than the other, exactly. It is decided where what was counted differs by 6, since five
-// rests are below 5; and after 21 turns nothing is left of any number.
+// Whether the one side is no more than the other, exactly. It is decided where what was counted differs by 6, since
+// five rests are below 5; and after 21 turns nothing is left of any number.
 fn no_more(s: Sides) -> bool
     requires { ⌜ All (Rest binary64) (five (s .p .a) (s .p .b) (s .p .c) (s .p .d) (s .p .e)) ⌝ ∗ ⌜ All (Rest binary64) (five (s .n .a) (s .n .b) (s .n .c) (s .n .d) (s .n .e)) ⌝ }
     ensures { λ r. ⌜ r ≡ run 21 (five (s .p .a) (s .p .b) (s .p .c) (s .p .d) (s .p .e)) (five (s .n .a) (s .n .b) (s .n .c) (s .n .d) (s .n .e)) (s .a) (s .b) ⌝ }

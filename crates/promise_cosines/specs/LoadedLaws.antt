@@ -5,10 +5,10 @@ use mathlib.Core.Bool.{Bool, true, false, cond}
 use mathlib.Core.List.{List}
 use Prim.Native.Nat.{ℕ, _-_, _/_, _%_, _≤_, _<_}
 use native.Mathlib.Omega.{arith}
-use borrow.Author.Tests.{ne-eqb, eq-eqb, eqb-true, eqb-false}
-use lib.Dec.{T, eqb, ltb, lit≤}
+use borrow.Author.Tests.{eq-eqb, eqb-false}
+use lib.Dec.{T, eqb, lit≤}
 use lib.ListN.{length}
-use lib.Ieee.{Float, binary64, round, fits, ofInt}
+use lib.Ieee.{Float, binary64, round, fits}
 use lib.Ieee.Scale.{finite}
 use Rattle.laws.specs.Binary64.{_⊗_, _⊘_, whole, fraction}
 use Rattle.laws.specs.Sums.{sum-below}
@@ -21,33 +21,29 @@ use Rattle.verdict.specs.declared.Report.{Report}
 use Rattle.verdict.specs.declared.Verdict.{Verdict}
 use Rattle.verdict.specs.declared.Verdict.the-variants as Verdict
 use Rattle.wire.specs.Bytes.{floatBytes}
-use Rattle.wire.specs.Writes.{Writes, wholeTaps}
+use Rattle.wire.specs.Writes.{Writes}
 use Rattle.wire.specs.WritesLaws.{writes-agreed}
 use Rattle.math_trig.specs.Trig.{cosOf}
 use Rattle.win_shapes.specs.Windows.{angle, hannAt, hammingAt, blackmanAt, cosinesAt}
 use Rattle.win_shapes.specs.declared.cosines.Cosines.{Cosines}
 use Rattle.win_cosines.specs.Load.{cosinesOf, loadOf, hannNumbers, hammingNumbers, blackmanNumbers}
 use Rattle.win_cosines.specs.Worked as Worked
-use Rattle.win_cosines.specs.declared.Loading.{Loading}
 use Rattle.fir_sinc.specs.Windows.{normOf, shapeAt, windowAt}
 use Rattle.fir_sinc.specs.Taps.{rawAt}
 use Rattle.fir_sinc.specs.declared.window.Window.{Window}
 use Rattle.fir_sinc.specs.declared.window.Window.the-variants as Window
-use Rattle.fir_lowpass.specs.Lowpass.{divisorOf, inside, countTaken, betaTaken, seriesSettle, usable, judgementOf, designOf, wherePassed, lowpassWith, lowpassOf, tapOf, outcomeOf}
-use Rattle.fir_lowpass.specs.LowpassLaws.{designed, Passed, passed, count-most}
-use Rattle.fir_lowpass.specs.declared.lowpass.Lowpass.{Lowpass}
-use Rattle.fir_lowpass.specs.declared.lowpass.Designed.{Designed}
+use Rattle.fir_lowpass.specs.Lowpass.{divisorOf, betaTaken, seriesSettle, usable, judgementOf, designOf, wherePassed, lowpassWith, lowpassOf, tapOf, outcomeOf}
+use Rattle.fir_lowpass.specs.LowpassLaws.{passed, count-most}
 use Rattle.fir_lowpass.specs.declared.lowpass.Designed.the-variants.{Ready, Refused}
 use Rattle.ticket_codes.specs.Codes.{windowOf}
 use Rattle.ticket_codes.specs.declared.Coded.the-variants.{Known}
 use Rattle.c_lowpass.specs.Lowpass.{lowpassBytes}
-use Rattle.c_cosines.specs.Loads.{numbersIn, loadBytes, answerOf}
+use Rattle.c_cosines.specs.Loads.{loadBytes, answerOf}
 use Rattle.c_cosines.specs.declared.load.Loaded.{Loaded}
 use Rattle.promise_cosines.specs.Finite.{cos-finite}
-use Rattle.promise_cosines.specs.Zeros.{notMinus}
 use Rattle.promise_cosines.specs.Angle.{angle-inside}
 use Rattle.promise_cosines.specs.Builtins.{two-terms, three-terms}
-use Rattle.promise_cosines.specs.Loaded.{Takes, TakesBuiltIns, WritesAs, WritesBuiltIns}
+use Rattle.promise_cosines.specs.Loaded.{Takes, TakesBuiltIns, WritesBuiltIns}
 
 -- ---- the three formulas, at the angle of tap i where the last tap is d
 module _ (i d : ℕ) (h : i ≤ d) (D : 0 < d) (l : d ≤ 16777216) where

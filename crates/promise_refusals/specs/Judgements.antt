@@ -27,7 +27,6 @@ use Rattle.wire.specs.Writes.{wholeElements}
 use Rattle.fmt_q15.specs.Q15 as Q15
 use Rattle.fmt_q14.specs.Q14 as Q14
 use Rattle.fmt_q15.specs.declared.q15.Coded.{Coded}
-use Rattle.fmt_q15.specs.declared.q15.Coded.the-variants as Coded
 use Rattle.math_bessel.specs.declared.Series.{Series}
 use Rattle.win_sampled.specs.Shapes.{shapeTaken, divisorOf, seriesSettle, judgementOf}
 use Rattle.win_sampled.specs.declared.shape.Shape.{Shape}

@@ -22,7 +22,6 @@ use Rattle.verdict.specs.Reports.{outcomeReport, doneReport}
 use Rattle.verdict.specs.Outcome.{Outcome, answered}
 use Rattle.verdict.specs.Outcome as Outcome
 use Rattle.verdict.specs.Converts.{takenOf, groupsOf, thenOf, leftOf}
-use Rattle.verdict.specs.declared.Refusal.{Refusal}
 use Rattle.verdict.specs.declared.Report.{Report}
 use Rattle.verdict.specs.declared.Verdict.{Verdict}
 use Rattle.verdict.specs.declared.Verdict.the-variants.{Done, Refused}
@@ -40,7 +39,7 @@ use Rattle.c_formats.specs.declared.element.Format.the-variants as Format
 use Rattle.c_formats.specs.Formats.{widthOf, takesOf, patternOf, outsideOf, bytesIn}
 use Rattle.c_formats.specs.Conversions.{floats, lengthsOf, storedOf, ConvertsBytes}
 use Rattle.c_formats.specs.ConversionLaws.{right-lengths, count}
-use Rattle.promise_refusals.specs.Demand.{Numbered, Filled, FilledOrKept, LoadedOrNone, elementAt, StopsAt, ConvertedOrKept}
+use Rattle.promise_refusals.specs.Demand.{Filled, FilledOrKept, LoadedOrNone, elementAt, StopsAt, ConvertedOrKept}
 use Rattle.promise_refusals.specs.Verdicts.{ofLoading}
 use Rattle.promise_refusals.specs.Listed.{Listed, never-zero, numbered, outcome-heard, done-heard, loading-heard}
 use Rattle.promise_refusals.specs.Exports.{load-bytes}

@@ -17,7 +17,7 @@ use Rattle.laws.specs.Filled.{tabulate, length-tabulate}
 use Rattle.laws.specs.Floor.{floorZ, ceilZ}
 use Rattle.laws.specs.SumError.{Each}
 use Rattle.laws.specs.Sums.{sumTo}
-use Rattle.wire.specs.Bytes.{floatBytes, floatAt, floatsIn, codesIn}
+use Rattle.wire.specs.Bytes.{floatBytes, floatAt, codesIn}
 use Rattle.wire.specs.Read.{floats-back}
 use Rattle.verdict.specs.Report.{acceptedOf}
 use Rattle.verdict.specs.declared.Report.{Report}

@@ -1,6 +1,6 @@
 -- Demand 3 of the taps that a design leaves in a slice of f64s, and the mirror and the zeros of a half-band there, for
 -- every ticket and every length of the slice: one law from `Fills`. Assumes nothing.
-use mathlib.Core.Path.{_≡_, refl, sym, ap, _∙_, subst}
+use mathlib.Core.Path.{_≡_, sym, ap, _∙_, subst}
 use mathlib.Core.List.{List}
 use Prim.Native.Nat.{ℕ, _-_, _%_, _<_}
 use native.Mathlib.Omega.{arith}

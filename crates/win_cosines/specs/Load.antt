@@ -1,7 +1,6 @@
 -- What comes of loading a lock maker's own numbers for a window of cosines. Definitions only.
 --   c0 to c4, of which those not given are 0. Refused: 17 a count that isn't 1 to 5, 18 a number that isn't finite or
 --   whose size is above 1, 19 an exact sum that is further than 2^−40 from 1; in that order
-use Prim.Native.Nat.{ℕ}
 use mathlib.Core.Bool.{_&&_, cond}
 use mathlib.Core.List.{List, [], _∷_}
 use lib.Dec.{leb}

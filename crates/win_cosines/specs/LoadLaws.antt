@@ -6,7 +6,7 @@ use Prim.Native.Nat.{ℕ, zero, suc, _≤_, _<_}
 use native.Mathlib.Omega.{arith}
 use borrow.Author.Tests.{le-leb, lt-leb}
 use lib.Dec.{leb}
-use lib.IntN.{ℤ, pos}
+use lib.IntN.{pos}
 use lib.ListN.{length, getD}
 use lib.Ieee.{Float, binary64, ofInt, round, neg}
 use Rattle.laws.specs.Binary64.{whole}
@@ -19,7 +19,6 @@ use Rattle.verdict.specs.declared.Refusal.the-variants.{Plain, Range}
 use Rattle.verdict.specs.declared.Verdict.{Verdict}
 use Rattle.verdict.specs.declared.Verdict.the-variants as Verdict
 use Rattle.win_shapes.specs.declared.cosines.Cosines.{Cosines}
-use Rattle.win_cosines.specs.declared.Loading.{Loading}
 use Rattle.win_cosines.specs.declared.Loading.the-variants.{Loaded, Refused}
 use Rattle.win_cosines.specs.Load.{cosinesOf, numbersTaken, wherePassed, loadOf}
 

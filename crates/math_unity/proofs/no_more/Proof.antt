@@ -1,4 +1,5 @@
--- `math_unity::no_more` meets its contract. The invariant: what is left to do answers as the whole does. Assumes nothing.
+-- `math_unity::no_more` meets its contract. The invariant: what is left to do answers as the whole does. Assumes
+-- nothing.
 use mathlib.Core.Path.{refl}
 use native.Mathlib.Omega.{arith}
 use lib.Dec.{lit≤}

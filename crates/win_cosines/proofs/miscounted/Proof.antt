@@ -1,5 +1,5 @@
 -- `win_cosines::miscounted` meets its contract. Assumes nothing.
-use mathlib.Core.Path.{_≡_, refl}
+use mathlib.Core.Path.{refl}
 use borrow.Author.Needs.{needs}
 use lib.Ieee.{ofBits, ofInt, round}
 use Rattle.win_cosines.proofs.miscounted.Statement.{statement}

@@ -1,4 +1,5 @@
--- `promise_calls::cosines::lowpass_cosines_new` meets its contract: what its export ensures, by demand 1. Assumes nothing.
+-- `promise_calls::cosines::lowpass_cosines_new` meets its contract: what its export ensures, by demand 1. Assumes
+-- nothing.
 use mathlib.Core.Path.{ap, _∙_}
 use Rattle.verdict.specs.Outcome.{answered}
 use Rattle.verdict.specs.declared.Report.{Report}

@@ -1,4 +1,5 @@
--- `promise_calls::cosines::lowpass_cosines_q15` meets its contract: what both exports ensure, by the chain to the filter.
+-- `promise_calls::cosines::lowpass_cosines_q15` meets its contract: what both exports ensure, by the chain to the
+-- filter.
 -- Assumes nothing.
 use Rattle.fir_sinc.specs.declared.window.Window.the-variants.{Cosines}
 use Rattle.ticket_codes.specs.declared.Coded.the-variants.{Known}
