@@ -26,6 +26,7 @@ LEAST = {
     "2^-1074 inside": 4000, "2^-1074 beyond": 4000,
     "doubles err": 25000, "doubles refuse": 1500, "once rounded errs": 25000,
     "low-passes": 4000, "designs": 2500, "taps": 140000, "built in": 500,
+    "tap totals": 2500, "Q15 totals": 2000,
     "refused 8": 200, "refused 1": 150, "refused 2": 200, "refused 6": 100, "refused 10": 200,
 }  # fmt: skip
 
@@ -185,6 +186,40 @@ def compare_lists(library, figures, differences):
     return load
 
 
+# ---- What the rounding of taps costs
+
+ONE = 2**1074  # in multiples of the smallest double
+
+
+class Totals:
+    """Demand 3 by whole numbers, of the doubles that the library wrote: the largest share of each bound."""
+
+    def __init__(self):
+        self.share = {"tap": 0.0, "Q15": 0.0}
+
+    def hold(self, kind, figures, distance, bound, call, differences):
+        figures[f"{kind} totals"] += 1
+        if distance > bound:
+            differences.add("totals", call, f"within its {kind} total", "further off")
+        self.share[kind] = max(self.share[kind], distance * 10**12 // bound / 1e12)
+
+    def add(self, taps, figures, call, differences):
+        if not all(map(math.isfinite, taps)):
+            return
+        n, sizes, total = len(taps), 0, 0
+        for tap in taps:
+            over, under = tap.as_integer_ratio()
+            multiple = over * (ONE // under)
+            total += multiple
+            sizes += abs(multiple)
+        self.hold("tap", figures, abs(total - ONE) << 52, n * (ONE + sizes), call, differences)
+        codes = [math.floor(32768.0 * tap + 0.5) for tap in taps]
+        # No tap that the conversion refuses, and none that saturates.
+        if min(codes) >= -32768 and max(codes) <= 32767:
+            bound = n * ((ONE << 36) + ONE + sizes)
+            self.hold("Q15", figures, (ONE << 37) * abs(sum(codes) - 32768), bound, call, differences)
+
+
 # ---- The low-pass
 
 EVERY_BYTE = bytes(range(256))
@@ -196,6 +231,7 @@ def compare_tickets(library, load, figures, differences):
     coded = bind(library, "pel_lowpass", Report, c_double, c_double, c_uint64, c_double, c_void_p, c_size_t)
     lent = Lent(8 * max(inputs.LONG))
     codes = {inputs.HANN: 0, inputs.HAMMING: 1, inputs.BLACKMAN: 2}
+    totals = Totals()
 
     def check(call, report, must, content=None):
         """A report, and if a content is said that of the buffer."""
@@ -235,6 +271,9 @@ def compare_tickets(library, load, figures, differences):
         what = f"ticket {place}, ({cutoff.hex()}, {rate.hex()}, {{{shown(numbers)}}}, {length} bytes)"
         report = fill(cutoff, rate, record, lent.lend(blank, at), length)
         check(f"pel_lowpass_cosines, {what}", report, must, content)
+        if report.number == 0 and lent.content() is not None:
+            written = struct.unpack(f"<{length // 8}d", lent.content())
+            totals.add(written, figures, f"pel_lowpass_cosines, {what}", differences)
         alone = must if length % 8 == 0 else model.lowpass(cutoff, rate, numbers, length // 8)[0]
         check(f"pel_lowpass_cosines_new for the whole taps, {what}", judge(cutoff, rate, record, length // 8), alone)
         # The windows that have a code give the same by it, and there is no code 4.
@@ -246,6 +285,7 @@ def compare_tickets(library, load, figures, differences):
             report = coded(cutoff, rate, 4, 0.0, lent.lend(blank, at), length)
             check(f"pel_lowpass with code 4, {what}", report, model.Report(7), blank)
     limits(fill, judge, check)
+    return totals
 
 
 def limits(fill, judge, check):
@@ -289,9 +329,11 @@ def main(words):
     library = ctypes.CDLL(words[0])
     figures, differences = Counter(), Differences(len(words) > 1)
     load = compare_lists(library, figures, differences)
-    compare_tickets(library, load, figures, differences)
+    totals = compare_tickets(library, load, figures, differences)
     few = [f"{name} {figures[name]}, not {least} or more" for name, least in LEAST.items() if figures[name] < least]
     print(f"{line(figures)}; {differences.count} differ")
+    for kind, share in totals.share.items():
+        print(f"cosines: {kind} total on {figures[f'{kind} totals']} designs, at most {share:.11f} of its bound")
     if differences.count:
         print("cosines: by group: " + ", ".join(f"{name} {count}" for name, count in differences.groups.items()))
     if few:
