@@ -4,3 +4,5 @@ pub mod Angle
 pub mod Builtins
 pub mod Loaded
 pub mod LoadedLaws
+pub mod Worked
+pub mod Met

@@ -34,8 +34,7 @@ use Rattle.verdict.specs.declared.Verdict.{Verdict}
 use Rattle.verdict.specs.Outcome.{Outcome, Fills}
 use Rattle.verdict.specs.Outcome as Outcome
 use Rattle.fir_sinc.specs.Windows.{windowAt, normOf}
-use Rattle.win_cosines.specs.Load.{cosinesOf}
-use Rattle.fir_sinc.specs.declared.window.Window.the-variants.{Hann, Cosines}
+use Rattle.fir_sinc.specs.declared.window.Window.the-variants.{Hann}
 use Rattle.fir_lowpass.specs.LowpassLaws.{lowpass-count}
 use Rattle.fir_spec.specs.SpecLaws.{spec-count}
 use Rattle.fir_gaussian.specs.GaussianLaws.{gaussian-count}
@@ -48,8 +47,6 @@ use Rattle.fir_channelizer.specs.Channelizer as Channelizer
 use Rattle.c_formats.specs.declared.element.Format.the-variants.{Q15}
 use Rattle.c_formats.specs.Conversions.{ConvertsBytes}
 use Rattle.ticket_codes.specs.Codes.{windowOf}
-use Rattle.ticket_codes.specs.declared.Coded.{Coded}
-use Rattle.ticket_codes.specs.declared.Coded.the-variants.{Known}
 use Rattle.c_lowpass.specs.Lowpass.{lowpassBytes}
 use Rattle.c_lowpass.specs.Prototype.{channelizerBytes}
 use Rattle.c_pulses.specs.Buffers.{halfbandBytes, gaussianBytes}
@@ -77,7 +74,7 @@ pub record Premises (r : Report) (after : List ℕ) : Type 0 where
   pub within : Each unsaturated (tapsIn r after)
 
 -- as a test, of an outcome
-unfoldable all : (Float → Bool) → List Float → Bool
+unfoldable pub all : (Float → Bool) → List Float → Bool
 all b [] = true
 all b (t ∷ ts) = b t && all b ts
 
@@ -126,10 +123,10 @@ pub record Stands (o : Outcome) (before : List ℕ) : Type 0 where
   pub filter : (out codes : List ℕ) (c : Report) → length out ≡ 2 * outcomeReport o .count → ConvertsBytes Q15 1 (written floatBytes o before) out c codes → Accepted c × FilterTotal (tapsIn (outcomeReport o) (written floatBytes o before)) (codesIn (outcomeReport o .count) codes)
 
 -- what such an export answers and leaves is what it answers and leaves
-itself : {o : Outcome} {before : List ℕ} → Writes floatBytes o before (outcomeReport o) (written floatBytes o before)
+pub itself : {o : Outcome} {before : List ℕ} → Writes floatBytes o before (outcomeReport o) (written floatBytes o before)
 itself = record { answer = refl; buffer = refl }
 
-stands : (o : Outcome) (before : List ℕ) → Sound o → T (met o) → Totals (outcomeReport o) (written floatBytes o before) → Stands o before
+pub stands : (o : Outcome) (before : List ℕ) → Sound o → T (met o) → Totals (outcomeReport o) (written floatBytes o before) → Stands o before
 stands o before s m t =
     let p = met-premises o before s m in
     let whole : WholeTaps (outcomeReport o) (written floatBytes o before) = whole-taps s (itself {o = o} {before = before}) in
@@ -143,7 +140,7 @@ stands o before s m t =
     }
 
 -- the same ticket with another buffer of as many bytes
-of-size : (made : ℕ → Outcome) (len : ℕ) (before : List ℕ) → length before ≡ len → T (met (made len)) → T (met (made (length before)))
+pub of-size : (made : ℕ → Outcome) (len : ℕ) (before : List ℕ) → length before ≡ len → T (met (made len)) → T (met (made (length before)))
 of-size made len before e m = subst (λ (k : ℕ). T (met (made k))) (sym e) m
 
 -- a ticket that meets them has as many taps as were asked for
@@ -165,22 +162,6 @@ pub lowpass-stands : (before : List ℕ) → length before ≡ 40 → Stands (lo
 lowpass-stands before e =
     stands _ before (lowpass-bytes-sound (fraction 1 4) (whole 1) (windowOf 0 (whole 0)) (length before)) (of-size lowpassTicket 40 before e lowpass-met)
     (lowpass-written (fraction 1 4) (whole 1) (windowOf 0 (whole 0)) before _ _ itself)
-
--- Blackman and Harris's window, loaded: in 40 bytes 5 taps
-abbrev pub harrisLoaded : Coded
-harrisLoaded = Known (Cosines (cosinesOf (fraction 35875 100000 ∷ fraction 48829 100000 ∷ fraction 14128 100000 ∷ fraction 1168 100000 ∷ [])))
-
-abbrev pub cosinesTicket : ℕ → Outcome
-cosinesTicket len = lowpassBytes (fraction 1 4) (whole 1) harrisLoaded len
-
-pub cosines-met : T (met (cosinesTicket 40))
-unfolding met all tabulate takes moved Lowpass.lowpassOf Lowpass.tapOf windowAt normOf sinOf cosOf sumTo fact over positive floorOf absOf asFloat floorZ ofBits ofInt round add sub mul div lt le ne
-cosines-met = tt
-
-pub cosines-stands : (before : List ℕ) → length before ≡ 40 → Stands (cosinesTicket (length before)) before
-cosines-stands before e =
-    stands _ before (lowpass-bytes-sound (fraction 1 4) (whole 1) harrisLoaded (length before)) (of-size cosinesTicket 40 before e cosines-met)
-    (lowpass-written (fraction 1 4) (whole 1) harrisLoaded before _ _ itself)
 
 -- cutoff 0.25, transition 0.5, 8 dB at the rate 1, at most 3 taps: in 24 bytes 3 taps, beta 0
 abbrev pub specTicket : ℕ → Outcome
