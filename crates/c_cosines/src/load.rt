@@ -70,6 +70,26 @@ fn answer(n: u64, loading: Loading) -> Loaded
     }
 }
 
+// What comes of a list of bytes.
+fn load_bytes(src: &[u8]) -> Loading
+    ensures { λ r. ⌜ r ≡ loadBytes (now (src .entry)) ⌝ }
+{
+    let len = src.len() as u64;
+    if len % 8 != 0 {
+        return Loading::Refused(Refusal::Length(len - len % 8, len));
+    }
+    loaded(
+        len / 8,
+        Cosines {
+            c0: number_at(src, 0),
+            c1: number_at(src, 1),
+            c2: number_at(src, 2),
+            c3: number_at(src, 3),
+            c4: number_at(src, 4),
+        },
+    )
+}
+
 // Loads one to five numbers, eight bytes each, the lowest first, for the window c0 − c1 cos x + c2 cos 2x − c3 cos 3x +
 // c4 cos 4x; those not given are 0. Gives the window to design with, and how many numbers as the count.
 // Refused, in this order, with a window of zeros: 8 a length that isn't a multiple of 8, with the length to the last
@@ -80,19 +100,5 @@ fn answer(n: u64, loading: Loading) -> Loaded
 pub extern "C" fn pel_load_cosines(src: &[u8]) -> Loaded
     ensures { λ r. ⌜ r ≡ answerOf (length (now (src .entry)) / 8) (loadBytes (now (src .entry))) ⌝ }
 {
-    let len = src.len() as u64;
-    if len % 8 != 0 {
-        return answer(
-            len / 8,
-            Loading::Refused(Refusal::Length(len - len % 8, len)),
-        );
-    }
-    let numbers = Cosines {
-        c0: number_at(src, 0),
-        c1: number_at(src, 1),
-        c2: number_at(src, 2),
-        c3: number_at(src, 3),
-        c4: number_at(src, 4),
-    };
-    answer(len / 8, loaded(len / 8, numbers))
+    answer(src.len() as u64 / 8, load_bytes(src))
 }
