@@ -4,8 +4,8 @@
  * that is said here for every argument, NaN, infinities, zeros of both signs, subnormal numbers and impossible counts
  * included; it allocates nothing, keeps nothing, calls nothing but memset and always returns. On the stack pel_lowpass,
  * pel_lowpass_cosines, pel_design_lowpass, pel_design_new_cutoff, pel_design_new_beta, pel_spec_design, pel_halfband,
- * pel_gaussian and pel_channelizer_prototype take 9,504 bytes at most, the others under 1,100; docs/FUNCTIONS.md has
- * the bytes of each.
+ * pel_gaussian, pel_channelizer_prototype and pel_design_ticket take 9,504 bytes at most, the others under 1,100;
+ * docs/FUNCTIONS.md has the bytes of each.
  *
  * The bits are the same on every reader: each operation is rounded once to a double, to the nearest, ties to even. A
  * NaN's sign and payload are free.
@@ -29,8 +29,8 @@
 /* The version of this header and of the library that comes with it. */
 #define PEL_VERSION_MAJOR 0
 #define PEL_VERSION_MINOR 5
-#define PEL_VERSION_PATCH 1
-#define PEL_VERSION "0.5.1"
+#define PEL_VERSION_PATCH 2
+#define PEL_VERSION "0.5.2"
 
 #ifdef __cplusplus
 extern "C" {
@@ -65,7 +65,7 @@ double pel_pow04(double v);
 
 /* ---- What a designer answers ------------------------------------------------------------------ */
 
-/* The refusals by number, and what is wrong. The numbers are 1 to 11, and 16 to 19. Later versions add others, between
+/* The refusals by number, and what is wrong. The numbers are 1 to 14, and 16 to 19. Later versions add others, between
  * these and above them: a caller must treat every number but PEL_ACCEPTED as a refusal, those that it doesn't know
  * included. */
 enum {
@@ -84,6 +84,11 @@ enum {
     /* Arithmetic caused it. */
     PEL_BAD_SUM = 10,     /* the sum that the taps are divided by is 0 or not finite */
     PEL_BAD_ELEMENT = 11, /* an element that Q15 or Q14 can't take */
+    /* The card caused it. */
+    PEL_CUT_SHORT = 12,         /* the bytes end inside a record */
+    PEL_UNKNOWN_KIND = 13,      /* a kind of ticket that isn't 1 to 6 */
+    PEL_BAD_RECORD_LENGTH = 14, /* a record's length isn't its kind's */
+    /* Arithmetic caused it. */
     PEL_NOT_SETTLED = 16, /* a Bessel series of Kaiser's window doesn't settle: take a beta of 713 or less, since above
                              about 714 none does */
     /* The ticket's author caused it. */
@@ -104,7 +109,7 @@ typedef struct {
     uint64_t given;    /* PEL_LENGTH: the length given;    PEL_CAP: max_taps */
     uint64_t index;    /* PEL_ELEMENT: the element's index */
     /* Accepted, and of pel_bessel_i0 with 16 too: */
-    uint64_t count; /* the number of taps, terms, half samples, samples, elements or coefficients */
+    uint64_t count; /* the number of taps, terms, half samples, samples, elements, coefficients, tickets or bytes */
     double value;   /* a divisor, a factor, a beta, a sum, or a Q15 or Q14 number */
 } pel_report;
 
@@ -458,6 +463,81 @@ typedef struct {
 } pel_gain_report;
 
 pel_gain_report pel_window_gain(const uint8_t *source, size_t source_bytes);
+
+/* ---- Tickets on a card --------------------------------------------------------------------------- */
+
+/* A card is records one behind the other: four bytes with the length of what follows, two with the kind, then the
+ * kind's fields, eight bytes each, all little-endian. A float stands as its bits, a count as an unsigned number.
+ *   kind                   fields                                                  length  bytes in all
+ *   1 PEL_TICKET_LOWPASS      cutoff, rate, window 0 to 3, beta, count                 42            46
+ *   2 PEL_TICKET_SPEC         cutoff, transition, attenuation, rate, max_taps          42            46
+ *   3 PEL_TICKET_HALFBAND     beta, count                                              18            22
+ *   4 PEL_TICKET_GAUSSIAN     bt, samples, span                                        26            30
+ *   5 PEL_TICKET_RRC          rolloff, samples, span                                   26            30
+ *   6 PEL_TICKET_CHANNELIZER  channels, branch, passband, stopband, attenuation        42            46 */
+enum {
+    PEL_TICKET_LOWPASS = 1,
+    PEL_TICKET_SPEC = 2,
+    PEL_TICKET_HALFBAND = 3,
+    PEL_TICKET_GAUSSIAN = 4,
+    PEL_TICKET_RRC = 5,
+    PEL_TICKET_CHANNELIZER = 6
+};
+
+/* A ticket: its kind and the fields of its record in their order, floats as their bits, which a NaN's are too: memcpy
+ * makes a double of one. Fields past the kind's are 0, and so is the beta of a window other than PEL_KAISER; nobody
+ * looks at these. */
+typedef struct {
+    uint64_t kind;
+    uint64_t fields[5];
+} pel_ticket;
+
+/* What reading finds: the ticket, and the report. */
+typedef struct {
+    pel_ticket ticket;
+    pel_report report;
+} pel_reading;
+
+/* Reads the record that the bytes begin with; what follows it doesn't matter. Accepted: count is how many bytes the
+ * record takes, so that source + count is the unread part. No field but the window is judged: that is for
+ * pel_judge_ticket. Refused, in this order, with a ticket of zeros; all of the bytes stay unread then:
+ *   12  fewer than six bytes
+ *   13  a kind that isn't 1 to 6
+ *   14  a length that isn't the kind's
+ *   12  fewer bytes than the record takes
+ *   7   a window above 3
+ * Example: 18 0 0 0, 3 0, the eight bytes of 8.0 and those of 31 are a half-band's ticket and take 22 bytes. */
+pel_reading pel_read_ticket(const uint8_t *source, size_t source_bytes);
+
+/* What checking a card finds: how many tickets were read, at which byte reading ended, and the report. */
+typedef struct {
+    uint64_t tickets;
+    uint64_t place;
+    pel_report report;
+} pel_card;
+
+/* Reads a card record by record, to its end or to the first record that is refused. Accepted: the whole card was read,
+ * place is source_bytes, and count is the number of tickets. Refused as pel_read_ticket refuses the bytes from place
+ * on: the `tickets` records before it are whole. An empty card is accepted with no ticket. */
+pel_card pel_check_card(const uint8_t *source, size_t source_bytes);
+
+/* Judges a ticket, as it would be designed into a buffer of its own length: count is its number of taps, value the
+ * divisor (of kind 5 the factor) that the design's own function tells. Refused, in this order:
+ *   13  a kind that isn't 1 to 6
+ *   7   (kind 1) a window above 3
+ *   then as pel_lowpass_new, pel_spec_lowpass, pel_halfband_new, pel_gaussian_new, pel_rrc_new or
+ *   pel_channelizer_lowpass with the ticket's numbers. */
+pel_report pel_judge_ticket(pel_ticket ticket);
+
+/* Designs a ticket into a buffer of eight bytes a tap: what pel_lowpass, pel_spec_design, pel_halfband, pel_gaussian,
+ * pel_rrc or pel_channelizer_prototype leave there and tell. Refused, in this order, with `out` as it came:
+ *   13  a kind that isn't 1 to 6
+ *   7   (kind 1) a window above 3
+ *   8   bytes isn't a multiple of 8, both figures in bytes
+ *   8   (kinds 1 and 3) the ticket's count isn't the buffer's number of taps: expected and given in taps
+ *   then as that function; the other kinds have their own 8 there.
+ * Example: a half-band ticket with beta 8 and count 31 fills 248 bytes as pel_halfband(8, out, 248) does. */
+pel_report pel_design_ticket(pel_ticket ticket, uint8_t *out, size_t bytes);
 
 #ifdef __cplusplus
 }
