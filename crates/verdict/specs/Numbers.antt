@@ -66,6 +66,19 @@ badElement = 11
 abbrev pub notSettled : ℕ
 notSettled = 16
 
+-- ---- caused by the card
+-- the bytes end inside a record
+abbrev pub cutShort : ℕ
+cutShort = 12
+
+-- a kind that no ticket has
+abbrev pub unknownKind : ℕ
+unknownKind = 13
+
+-- the length of a record, where it isn't its kind's
+abbrev pub badRecordLength : ℕ
+badRecordLength = 14
+
 -- ---- all of them
 abbrev pub refusals : List ℕ
-refusals = badRate ∷ badFrequency ∷ badTransition ∷ badAttenuation ∷ badShape ∷ badCount ∷ badCode ∷ badLength ∷ tooManyTaps ∷ badSum ∷ badElement ∷ notSettled ∷ badCoefficientCount ∷ badCoefficient ∷ badCoefficientSum ∷ []
+refusals = badRate ∷ badFrequency ∷ badTransition ∷ badAttenuation ∷ badShape ∷ badCount ∷ badCode ∷ badLength ∷ tooManyTaps ∷ badSum ∷ badElement ∷ cutShort ∷ unknownKind ∷ badRecordLength ∷ notSettled ∷ badCoefficientCount ∷ badCoefficient ∷ badCoefficientSum ∷ []

@@ -6,6 +6,8 @@ use mathlib.Core.List.{List}
 use lib.ListN.{length}
 use lib.Ieee.{Float}
 use Rattle.laws.specs.Filled.{tabulate}
+use Rattle.verdict.specs.declared.Judged.{Judged}
+use Rattle.verdict.specs.declared.Judged.the-variants as Judged
 use Rattle.verdict.specs.declared.Refusal.{Refusal}
 use Rattle.verdict.specs.declared.Verdict.{Verdict}
 use Rattle.verdict.specs.declared.Verdict.the-variants as Verdict
@@ -19,6 +21,11 @@ pub data Outcome : Type 0 where
 abbrev pub wherePassed : Verdict → Outcome → Outcome
 wherePassed Verdict.Done o = o
 wherePassed (Verdict.Refused why) o = Refused why
+
+-- what a judgement without a buffer tells of it
+abbrev pub judgedOf : Outcome → Judged
+judgedOf (Designed n sum tap) = Judged.Accepted n sum
+judgedOf (Refused why) = Judged.Refused why
 
 -- ---- a buffer: filled, or as it came
 abbrev pub answered : Outcome → Verdict

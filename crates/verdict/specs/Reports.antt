@@ -5,6 +5,8 @@ use Rattle.verdict.specs.declared.Report.{Report}
 use Rattle.verdict.specs.Report.{reportOf, acceptedOf}
 use Rattle.verdict.specs.declared.Length.{Length}
 use Rattle.verdict.specs.declared.Length.the-variants as Length
+use Rattle.verdict.specs.declared.Judged.{Judged}
+use Rattle.verdict.specs.declared.Judged.the-variants as Judged
 use Rattle.verdict.specs.declared.Verdict.{Verdict}
 use Rattle.verdict.specs.declared.Verdict.the-variants as Verdict
 use Rattle.verdict.specs.Outcome.{Outcome}
@@ -24,3 +26,8 @@ outcomeReport (Outcome.Refused why) = reportOf why
 abbrev pub doneReport : ℕ → Verdict → Report
 doneReport n Verdict.Done = acceptedOf n (whole 0)
 doneReport n (Verdict.Refused why) = reportOf why
+
+-- a judgement: the same as of the outcome that it is of
+abbrev pub judgedReport : Judged → Report
+judgedReport (Judged.Accepted n sum) = acceptedOf n sum
+judgedReport (Judged.Refused why) = reportOf why

@@ -2,7 +2,7 @@
 // that judges something rests on these words. No function here has a `requires`.
 ghost use mathlib.Core.Path.{_≡_};
 ghost use Rattle.verdict.specs.Report.{told, reportOf, acceptedOf};
-ghost use Rattle.verdict.specs.Reports.{lengthReport};
+ghost use Rattle.verdict.specs.Reports.{lengthReport, judgedReport};
 
 // The refusals' numbers. Caused by the ticket's author: the rate.
 pub const BAD_RATE: u32 = 1;
@@ -34,6 +34,12 @@ pub const BAD_SUM: u32 = 10;
 pub const BAD_ELEMENT: u32 = 11;
 // A Bessel series that hasn't settled.
 pub const NOT_SETTLED: u32 = 16;
+// Caused by the card: the bytes end inside a record.
+pub const CUT_SHORT: u32 = 12;
+// A kind that no ticket has.
+pub const UNKNOWN_KIND: u32 = 13;
+// The length of a record, where it isn't its kind's.
+pub const BAD_RECORD_LENGTH: u32 = 14;
 
 // Why a ticket is refused: a shape with its number, so that a new number needs no new shape.
 pub enum Refusal {
@@ -58,6 +64,12 @@ pub enum Verdict {
 // How many taps, or why not.
 pub enum Length {
     Taps(u64),
+    Refused(Refusal),
+}
+
+// What a design is judged to be without its buffer: how many taps, and what they are divided by last, or why it is none.
+pub enum Judged {
+    Accepted(u64, f64),
     Refused(Refusal),
 }
 
@@ -159,5 +171,15 @@ pub fn told_length(length: Length) -> Report
     match length {
         Length::Taps(n) => accepted(n, 0.0),
         Length::Refused(why) => refused(why),
+    }
+}
+
+// What is told of a judgement: the taps as the count, their divisor as the value; of a refusal what `refused` tells.
+pub fn told_judged(judged: Judged) -> Report
+    ensures { λ r. ⌜ r ≡ judgedReport judged ⌝ }
+{
+    match judged {
+        Judged::Accepted(n, divisor) => accepted(n, divisor),
+        Judged::Refused(why) => refused(why),
     }
 }
