@@ -60,11 +60,14 @@ hasCode (Gaussian t) = true
 hasCode (Rrc t) = true
 hasCode (Channelizer t) = true
 
--- as C has them: fields that the kind hasn't are 0
+-- a kind and its fields as C has them: those that the kind hasn't are 0
+abbrev pub numbersIn : ℕ → List ℕ → Numbers
+numbersIn k xs =
+    let x : ℕ → ℕ = λ i. getD xs i 0 in
+    record { kind = k; first = x 0; second = x 1; third = x 2; fourth = x 3; fifth = x 4 }
+
 abbrev pub numbersOf : Ticket → Numbers
-numbersOf t =
-    let x : ℕ → ℕ = λ i. getD (fieldsOf t) i 0 in
-    record { kind = kindOf t; first = x 0; second = x 1; third = x 2; fourth = x 3; fifth = x 4 }
+numbersOf t = numbersIn (kindOf t) (fieldsOf t)
 
 -- ---- and back: k is a kind, xs has its fields
 -- how many fields a kind has; 0 where there is no such kind

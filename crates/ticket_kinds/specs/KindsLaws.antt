@@ -1,19 +1,19 @@
 -- The kinds are six; a ticket's numbers give it back; and how the tests of a kind and a window end. Assumes nothing.
-use mathlib.Core.Path.{_≡_, refl, sym, ap, _∙_}
-use mathlib.Core.Bool.{Bool, true, false, true≢false, cond}
+use mathlib.Core.Path.{_≡_, refl}
+use mathlib.Core.Bool.{true, false, true≢false, cond}
 use mathlib.Core.List.{List}
 use Prim.Native.Nat.{ℕ, zero, suc, _≤_, _<_}
 use native.Mathlib.Omega.{arith}
-use borrow.Author.Tests.{eqb-true, eqb-false, ne-eqb}
+use borrow.Author.Tests.{eqb-false, ne-eqb}
 use lib.Dec.{T, eqb, leb}
-use Rattle.verdict.specs.Numbers.{badCode, unknownKind}
+use Rattle.verdict.specs.Numbers.{badCode}
 use Rattle.verdict.specs.declared.Refusal.the-variants.{Plain}
 use Rattle.ticket_kinds.specs.declared.TicketWindow.{TicketWindow}
 use Rattle.ticket_kinds.specs.declared.TicketWindow.the-variants.{Hann, Hamming, Blackman, Kaiser, Loaded}
 use Rattle.ticket_kinds.specs.declared.Ticket.{Ticket}
 use Rattle.ticket_kinds.specs.declared.Ticket.the-variants.{Lowpass, Spec, Halfband, Gaussian, Rrc, Channelizer}
 use Rattle.ticket_kinds.specs.declared.numbers.Formed.the-variants.{Known, Refused}
-use Rattle.ticket_kinds.specs.Kinds.{windowOf, windowCode, windowBeta, numbersOf, fieldCount, ticketOf, windowTaken, hasCode, formed, formedOf}
+use Rattle.ticket_kinds.specs.Kinds.{windowOf, windowCode, windowBeta, numbersIn, numbersOf, fieldCount, ticketOf, windowTaken, hasCode, formed, formedOf}
 
 -- ---- a kind is one of six
 pub no-kind : (k : ℕ) → (k ≡ 1 → ⊥) → (k ≡ 2 → ⊥) → (k ≡ 3 → ⊥) → (k ≡ 4 → ⊥) → (k ≡ 5 → ⊥) → (k ≡ 6 → ⊥) → fieldCount k ≡ 0
@@ -35,28 +35,27 @@ by-kind P a b c d e f (suc (suc (suc (suc (suc (suc (suc k))))))) h =
     above : (k : ℕ) → 6 < k → fieldCount k ≡ 0
     above k h = no-kind k (λ e. omega arith) (λ e. omega arith) (λ e. omega arith) (λ e. omega arith) (λ e. omega arith) (λ e. omega arith)
 
-counts : (k : ℕ) → eqb (fieldCount k) 0 ≡ false → fieldCount k ≤ 5
+-- a kind has two, three or five fields, and what is no kind none
+pub counts : (k : ℕ) → eqb (fieldCount k) 0 ≡ false → (2 ≤ fieldCount k) × (fieldCount k ≤ 5) × (fieldCount k ≡ 4 → ⊥)
 unfolding fieldCount
-counts k h = by-kind (λ k. fieldCount k ≤ 5) (omega arith) (omega arith) (omega arith) (omega arith) (omega arith) (omega arith) k h
-
--- no kind has more than five fields
-pub few-fields : (k : ℕ) → fieldCount k ≤ 5
-few-fields k = go (eqb (fieldCount k) 0) refl
-  where
-    go : (b : Bool) → eqb (fieldCount k) 0 ≡ b → fieldCount k ≤ 5
-    go true h = omega (arith, eqb-true (fieldCount k) 0 h)
-    go false h = counts k h
+counts k h =
+    by-kind (λ k. (2 ≤ fieldCount k) × (fieldCount k ≤ 5) × (fieldCount k ≡ 4 → ⊥))
+    (omega arith, omega arith, λ e. omega arith)
+    (omega arith, omega arith, λ e. omega arith)
+    (omega arith, omega arith, λ e. omega arith)
+    (omega arith, omega arith, λ e. omega arith)
+    (omega arith, omega arith, λ e. omega arith)
+    (omega arith, omega arith, λ e. omega arith)
+    k h
 
 -- a code that is none of the first three is Kaiser's
 pub last-window : (code beta : ℕ) → (code ≡ 0 → ⊥) → (code ≡ 1 → ⊥) → (code ≡ 2 → ⊥) → Kaiser beta ≡ windowOf code beta
 last-window code beta a b c = rw (ne-eqb code 0 a, ne-eqb code 1 b, ne-eqb code 2 c)
 
--- ---- how the tests end
-pub unknown : (k : ℕ) (xs : List ℕ) → fieldCount k ≡ 0 → formed k xs ≡ Refused (Plain unknownKind)
-unknown k xs e = rw e
-
-pub form : (k : ℕ) (xs : List ℕ) → eqb (fieldCount k) 0 ≡ false → windowTaken k xs ≡ true → formed k xs ≡ Known (ticketOf k xs)
-form k xs e w = rw (e, w)
+-- ---- the tests look at the fields alone
+pub formed-numbers : (k : ℕ) (xs : List ℕ) → formedOf (numbersIn k xs) ≡ formed k xs
+unfolding formedOf windowTaken ticketOf
+formed-numbers k xs = refl
 
 -- ---- a ticket whose window has a code comes back from its numbers
 pub formed-back : (t : Ticket) → T (hasCode t) → formedOf (numbersOf t) ≡ Known t
