@@ -1,11 +1,10 @@
 // The windowed-sinc low-pass with a loaded window, as exports: the design judged, and its taps in a buffer. Such a
 // window has no code, so its record stands in place of one.
 use super::told::told_lowpass;
-use super::write::write_lowpass;
 use fir_cache::CACHED;
 use fir_lowpass::lowpass::Lowpass;
 use fir_sinc::window::Window;
-use verdict::Refusal;
+use ticket_bytes::lowpasses::put_lowpass;
 use verdict::Report;
 use win_shapes::cosines::Cosines;
 ghost use mathlib.Core.Path.{_≡_};
@@ -48,17 +47,6 @@ pub extern "C" fn pel_lowpass_cosines(
 ) -> Report
     ensures { λ r. ⌜ Writes floatBytes (lowpassBytes cutoff rate (Known (Window.Cosines window)) (length (now (out .entry)))) (now (out .entry)) r (now (out .exit)) ⌝ }
 {
-    let len = out.len() as u64;
-    if len % 8 != 0 {
-        return verdict::refused(Refusal::Length(len - len % 8, len));
-    }
     let mut raws = [0.0f64; CACHED];
-    let designed = fir_lowpass::lowpass::prepare(
-        cutoff,
-        rate,
-        Window::Cosines(window),
-        len / 8,
-        &mut raws,
-    );
-    write_lowpass(designed, &raws, &mut *out)
+    put_lowpass(cutoff, rate, Window::Cosines(window), &mut raws, &mut *out)
 }

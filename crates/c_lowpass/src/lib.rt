@@ -6,4 +6,3 @@ pub mod lowpass;
 pub mod prototype;
 pub mod spec;
 pub mod told;
-pub mod write;

@@ -1,8 +1,8 @@
 // The windowed-sinc low-pass, as exports: the design judged, and its taps in a buffer.
 use super::told::told_lowpass;
-use super::write::write_lowpass;
 use fir_cache::CACHED;
 use fir_lowpass::lowpass::Lowpass;
+use ticket_bytes::lowpasses::put_lowpass;
 use ticket_codes::Coded;
 use ticket_codes::window_of;
 use verdict::BAD_CODE;
@@ -57,13 +57,8 @@ pub extern "C" fn pel_lowpass(
     let coded = window_of(window, beta);
     match coded {
         Coded::Known(w) => {
-            let len = out.len() as u64;
-            if len % 8 != 0 {
-                return verdict::refused(Refusal::Length(len - len % 8, len));
-            }
             let mut raws = [0.0f64; CACHED];
-            let designed = fir_lowpass::lowpass::prepare(cutoff, rate, w, len / 8, &mut raws);
-            write_lowpass(designed, &raws, &mut *out)
+            put_lowpass(cutoff, rate, w, &mut raws, &mut *out)
         }
         Coded::Unknown => verdict::refused(Refusal::Plain(BAD_CODE)),
     }

@@ -1,8 +1,7 @@
 // The channelizer's prototype, as exports: how many taps its edges need, the design judged, and its taps in a buffer.
 use super::told::told_lowpass;
-use super::write::write_lowpass;
 use fir_cache::CACHED;
-use verdict::Refusal;
+use ticket_bytes::lowpasses::put_prototype;
 use verdict::Report;
 use verdict::told_length;
 ghost use mathlib.Core.Path.{_≡_};
@@ -86,19 +85,14 @@ pub extern "C" fn pel_channelizer_prototype(
 ) -> Report
     ensures { λ r. ⌜ Writes floatBytes (channelizerBytes channels branch passband stopband attenuation (length (now (out .entry)))) (now (out .entry)) r (now (out .exit)) ⌝ }
 {
-    let len = out.len() as u64;
-    if len % 8 != 0 {
-        return verdict::refused(Refusal::Length(len - len % 8, len));
-    }
     let mut raws = [0.0f64; CACHED];
-    let designed = fir_channelizer::fitted(
+    put_prototype(
         channels,
         branch,
         passband,
         stopband,
         attenuation,
-        len / 8,
         &mut raws,
-    );
-    write_lowpass(designed, &raws, &mut *out)
+        &mut *out,
+    )
 }

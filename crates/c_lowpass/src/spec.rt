@@ -1,9 +1,8 @@
 // The low-pass by its specification, as exports: how many taps it needs, the design judged, and its taps in a buffer.
 use super::told::told_lowpass;
-use super::write::write_lowpass;
 use fir_cache::CACHED;
 use fir_spec::DesignSpec;
-use verdict::Refusal;
+use ticket_bytes::lowpasses::put_spec;
 use verdict::Report;
 use verdict::told_length;
 ghost use mathlib.Core.Path.{_≡_};
@@ -76,16 +75,11 @@ pub extern "C" fn pel_spec_design(
 ) -> Report
     ensures { λ r. ⌜ Writes floatBytes (specBytes (specOf cutoff transition attenuation) rate cap (length (now (out .entry)))) (now (out .entry)) r (now (out .exit)) ⌝ }
 {
-    let len = out.len() as u64;
-    if len % 8 != 0 {
-        return verdict::refused(Refusal::Length(len - len % 8, len));
-    }
     let spec = DesignSpec {
         cutoff: cutoff,
         transition: transition,
         attenuation: attenuation,
     };
     let mut raws = [0.0f64; CACHED];
-    let designed = fir_spec::spec_prepare(spec, rate, cap, len / 8, &mut raws);
-    write_lowpass(designed, &raws, &mut *out)
+    put_spec(spec, rate, cap, &mut raws, &mut *out)
 }

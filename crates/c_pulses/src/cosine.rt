@@ -1,8 +1,7 @@
 // The root-raised-cosine pulse, as exports: how many taps, the design judged, and its taps in a buffer.
-use super::write::write_rrc;
 use fir_rrc::design::Rrc;
 use fir_rrc::design::RrcDesigned;
-use verdict::Refusal;
+use ticket_bytes::pulses::put_rrc;
 use verdict::Report;
 use verdict::told_length;
 ghost use mathlib.Core.Path.{_≡_};
@@ -43,10 +42,5 @@ pub extern "C" fn pel_rrc_new(rolloff: f64, samples: u64, span: u64) -> Report
 pub extern "C" fn pel_rrc(rolloff: f64, samples: u64, span: u64, out: &mut [u8]) -> Report
     ensures { λ r. ⌜ Writes floatBytes (rrcBytes rolloff samples span (length (now (out .entry)))) (now (out .entry)) r (now (out .exit)) ⌝ }
 {
-    let len = out.len() as u64;
-    if len % 8 != 0 {
-        return verdict::refused(Refusal::Length(len - len % 8, len));
-    }
-    let designed = fir_rrc::design::fitted(rolloff, samples, span, len / 8);
-    write_rrc(designed, &mut *out)
+    put_rrc(rolloff, samples, span, &mut *out)
 }

@@ -1,9 +1,8 @@
 // The half-band filter, as exports: the design judged, and its taps in a buffer.
-use super::write::write_halfband;
 use fir_cache::CACHED;
 use fir_halfband::HalfbandDesign;
 use fir_halfband::HalfbandDesigned;
-use verdict::Refusal;
+use ticket_bytes::pulses::put_halfband;
 use verdict::Report;
 ghost use mathlib.Core.Path.{_≡_};
 ghost use lib.ListN.{length};
@@ -35,11 +34,6 @@ pub extern "C" fn pel_halfband_new(beta: f64, taps: u64) -> Report
 pub extern "C" fn pel_halfband(beta: f64, out: &mut [u8]) -> Report
     ensures { λ r. ⌜ Writes floatBytes (halfbandBytes beta (length (now (out .entry)))) (now (out .entry)) r (now (out .exit)) ⌝ }
 {
-    let len = out.len() as u64;
-    if len % 8 != 0 {
-        return verdict::refused(Refusal::Length(len - len % 8, len));
-    }
     let mut raws = [0.0f64; CACHED];
-    let designed = fir_halfband::prepare(beta, len / 8, &mut raws);
-    write_halfband(designed, &raws, &mut *out)
+    put_halfband(beta, &mut raws, &mut *out)
 }

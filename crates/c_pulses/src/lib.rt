@@ -2,4 +2,3 @@
 pub mod cosine;
 pub mod halfbands;
 pub mod pulse;
-mod write;

@@ -1,9 +1,8 @@
 // The Gaussian pulse, as exports: the design judged, and its taps in a buffer.
-use super::write::write_gaussian;
 use fir_cache::CACHED;
 use fir_gaussian::gaussian_design::Gaussian;
 use fir_gaussian::gaussian_design::GaussianDesigned;
-use verdict::Refusal;
+use ticket_bytes::pulses::put_gaussian;
 use verdict::Report;
 ghost use mathlib.Core.Path.{_≡_};
 ghost use lib.ListN.{length};
@@ -35,11 +34,6 @@ pub extern "C" fn pel_gaussian_new(bt: f64, samples: u64, span: u64) -> Report
 pub extern "C" fn pel_gaussian(bt: f64, samples: u64, span: u64, out: &mut [u8]) -> Report
     ensures { λ r. ⌜ Writes floatBytes (gaussianBytes bt samples span (length (now (out .entry)))) (now (out .entry)) r (now (out .exit)) ⌝ }
 {
-    let len = out.len() as u64;
-    if len % 8 != 0 {
-        return verdict::refused(Refusal::Length(len - len % 8, len));
-    }
     let mut raws = [0.0f64; CACHED];
-    let designed = fir_gaussian::gaussian_design::fitted(bt, samples, span, len / 8, &mut raws);
-    write_gaussian(designed, &raws, &mut *out)
+    put_gaussian(bt, samples, span, &mut raws, &mut *out)
 }

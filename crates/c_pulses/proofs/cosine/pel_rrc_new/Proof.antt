@@ -4,12 +4,12 @@ use borrow.Author.Needs.{needs}
 use Rattle.verdict.specs.declared.Report.{Report}
 use Rattle.fir_rrc.specs.declared.design.RrcDesigned.{RrcDesigned}
 use Rattle.verdict.specs.Reports.{outcomeReport}
-use Rattle.c_pulses.specs.Sources.{ofRrc}
+use Rattle.fir_rrc.specs.Rrc.{outcomeOf}
 use Rattle.c_pulses.proofs.cosine.pel_rrc_new.Statement.{statement}
 use Rattle.c_pulses.proofs.cosine.pel_rrc_new.Tie as tie
 
 abbrev told : RrcDesigned → Report
-told d = outcomeReport (ofRrc d)
+told d = outcomeReport (outcomeOf d)
 
 new-requires : tie.Need-new-requires
 new-requires c κs = search needs

@@ -4,12 +4,12 @@ use borrow.Author.Needs.{needs}
 use Rattle.verdict.specs.declared.Report.{Report}
 use Rattle.fir_halfband.specs.declared.HalfbandDesigned.{HalfbandDesigned}
 use Rattle.verdict.specs.Reports.{outcomeReport}
-use Rattle.c_pulses.specs.Sources.{ofHalfband}
+use Rattle.fir_halfband.specs.Halfband.{outcomeOf}
 use Rattle.c_pulses.proofs.halfbands.pel_halfband_new.Statement.{statement}
 use Rattle.c_pulses.proofs.halfbands.pel_halfband_new.Tie as tie
 
 abbrev told : HalfbandDesigned → Report
-told d = outcomeReport (ofHalfband d)
+told d = outcomeReport (outcomeOf d)
 
 new-requires : tie.Need-new-requires
 new-requires c κs = search needs

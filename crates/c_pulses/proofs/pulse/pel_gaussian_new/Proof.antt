@@ -4,12 +4,12 @@ use borrow.Author.Needs.{needs}
 use Rattle.verdict.specs.declared.Report.{Report}
 use Rattle.fir_gaussian.specs.declared.gaussian_design.GaussianDesigned.{GaussianDesigned}
 use Rattle.verdict.specs.Reports.{outcomeReport}
-use Rattle.c_pulses.specs.Sources.{ofGaussian}
+use Rattle.fir_gaussian.specs.Gaussian.{outcomeOf}
 use Rattle.c_pulses.proofs.pulse.pel_gaussian_new.Statement.{statement}
 use Rattle.c_pulses.proofs.pulse.pel_gaussian_new.Tie as tie
 
 abbrev told : GaussianDesigned → Report
-told d = outcomeReport (ofGaussian d)
+told d = outcomeReport (outcomeOf d)
 
 new-requires : tie.Need-new-requires
 new-requires c κs = search needs
