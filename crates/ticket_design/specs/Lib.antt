@@ -1,0 +1,3 @@
+pub mod Design
+pub mod OwnLaws
+pub mod DesignLaws
