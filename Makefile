@@ -8,7 +8,7 @@ STRICT = -std=c11 -Wall -Wextra -Werror -Iinclude
 CHECKED = -g1 -Og -fsanitize=address,undefined -fno-sanitize-recover=all
 LIB = target/lib/libpeldozkar.a
 # The crates with exports: each makes one object, and the library holds them all.
-EXPORTS = c_lowpass c_cosines c_retune c_pulses c_windows c_formats c_sections c_math c_gain
+EXPORTS = c_lowpass c_cosines c_card c_retune c_pulses c_windows c_formats c_sections c_math c_gain
 # The library depends on the files of those crates and of all that they rest on, by crates.txt, and on which files and
 # crates these are, for which the name of an empty file stands. So nothing above the exports makes it anew.
 BELOW := $(shell tools/below --files $(EXPORTS))
