@@ -48,6 +48,12 @@ pub enum Reason {
     Divisor,
     /// 11: an element that Q15 or Q14 can't take.
     Element,
+    /// 12: the bytes end inside a record of a card.
+    CutShort,
+    /// 13: a kind of ticket that isn't 1 to 6.
+    Kind,
+    /// 14: the length of a card's record isn't its kind's.
+    RecordLength,
     /// 16: a Bessel series of Kaiser's window doesn't settle ([`Series::settled`](crate::Series::settled)). Take a
     /// smaller beta: up to 713 every series settles, above about 714 that at beta doesn't.
     Unsettled,
@@ -57,12 +63,12 @@ pub enum Reason {
     Coefficient,
     /// 19: the exact sum of a cosine window's coefficients is further than 2^-40 from 1.
     CoefficientSum,
-    /// A number that this crate doesn't know, none of 1 to 11 and 16 to 19: the library is newer than it.
+    /// A number that this crate doesn't know, none of 1 to 14 and 16 to 19: the library is newer than it.
     Unknown(u32),
 }
 
 impl Reason {
-    /// The refusal's number: 1 to 11, 16 to 19, or the one that is [`Unknown`](Self::Unknown).
+    /// The refusal's number: 1 to 14, 16 to 19, or the one that is [`Unknown`](Self::Unknown).
     ///
     /// ```
     /// assert_eq!(peldozkar::Reason::Cap.number(), 9);
@@ -80,6 +86,9 @@ impl Reason {
             Self::Cap => raw::TOO_MANY_TAPS,
             Self::Divisor => raw::BAD_SUM,
             Self::Element => raw::BAD_ELEMENT,
+            Self::CutShort => raw::CUT_SHORT,
+            Self::Kind => raw::UNKNOWN_KIND,
+            Self::RecordLength => raw::BAD_RECORD_LENGTH,
             Self::Unsettled => raw::NOT_SETTLED,
             Self::CoefficientCount => raw::BAD_COEFFICIENT_COUNT,
             Self::Coefficient => raw::BAD_COEFFICIENT,
@@ -101,6 +110,9 @@ impl Reason {
             raw::TOO_MANY_TAPS => Self::Cap,
             raw::BAD_SUM => Self::Divisor,
             raw::BAD_ELEMENT => Self::Element,
+            raw::CUT_SHORT => Self::CutShort,
+            raw::UNKNOWN_KIND => Self::Kind,
+            raw::BAD_RECORD_LENGTH => Self::RecordLength,
             raw::NOT_SETTLED => Self::Unsettled,
             raw::BAD_COEFFICIENT_COUNT => Self::CoefficientCount,
             raw::BAD_COEFFICIENT => Self::Coefficient,
@@ -126,6 +138,9 @@ impl Reason {
             Self::Cap => "more taps are needed than are allowed",
             Self::Divisor => "the sum that the taps are divided by is zero or not finite",
             Self::Element => "an element doesn't fit the format",
+            Self::CutShort => "the bytes end inside a record",
+            Self::Kind => "the kind of ticket is unknown",
+            Self::RecordLength => "the record's length isn't its kind's",
             Self::Unsettled => {
                 "a Bessel series of Kaiser's window doesn't settle: take a beta of 713, or 6478 dB, at most"
             }

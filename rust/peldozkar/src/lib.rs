@@ -17,7 +17,8 @@
 //!
 //! Or by what it has to do, with Kaiser's formulas finding the number of taps: [`Spec`]. Where a knob is turned, for
 //! the cutoff or for beta, [`Lowpass`] keeps the record of the design. A window of a customer's own coefficients is
-//! loaded once: [`Cosines`].
+//! loaded once: [`Cosines`]. Tickets that come on a card are read by [`read_ticket`] or [`Card`], and designed by
+//! [`Ticket::design`].
 //!
 //! # Filled or refused
 //!
@@ -26,8 +27,9 @@
 //! take keeps the numbers before it. Every number can be offered, NaN, infinities and impossible counts
 //! included: nothing here panics.
 //!
-//! A refusal has a number. This crate knows 1 to 11, and 16 to 19; later versions add others, between these and
-//! above, so [`Reason`], [`Carried`], [`Window`] and [`Response`] are `#[non_exhaustive]`.
+//! A refusal has a number. This crate knows 1 to 14, and 16 to 19; later versions add others, between these and
+//! above, so [`Reason`], [`Carried`], [`Window`], [`Response`], [`Ticket`], [`TicketWindow`] and [`Figures`] are
+//! `#[non_exhaustive]`.
 //!
 //! # What a caller owes
 //!
@@ -37,9 +39,9 @@
 //! where it is upward, 146 of the 147 taps of a specification are others. Status flags may be raised: a low-pass of one
 //! tap raises "invalid".
 //!
-//! On the stack the exports behind [`lowpass`], [`Lowpass`], [`Spec::design`], [`halfband`], [`gaussian`] and
-//! [`channelizer_prototype`] take 9,504 bytes at most, the others under 1,100; the repository's `docs/FUNCTIONS.md` has
-//! the bytes of each.
+//! On the stack the exports behind [`lowpass`], [`Lowpass`], [`Spec::design`], [`halfband`], [`gaussian`],
+//! [`channelizer_prototype`] and [`Ticket::design`] take 9,504 bytes at most, the others under 1,100; the repository's
+//! `docs/FUNCTIONS.md` has the bytes of each.
 //!
 //! # What is proved, and what isn't
 //!
@@ -71,6 +73,7 @@ compile_error!(
 #[doc = include_str!("../README.md")]
 struct Readme;
 
+mod card;
 mod channelizer;
 mod cosines;
 mod elementary;
@@ -86,6 +89,7 @@ mod sections;
 mod sys;
 mod windows;
 
+pub use card::{Bits, Broken, Card, Figures, Ticket, TicketWindow, check_card, read_ticket};
 pub use channelizer::{
     channelizer_lowpass, channelizer_prototype, channelizer_taps, channelizer_taps_per_branch,
 };

@@ -48,7 +48,7 @@ pub struct Rrc {
 }
 
 impl Rrc {
-    fn of(report: Report) -> Result<Self, Error> {
+    pub(crate) fn of(report: Report) -> Result<Self, Error> {
         let report = report.taken()?;
         Ok(Self {
             taps: report.count,

@@ -22,14 +22,16 @@
 pub use crate::sys::{
     pel_bessel_i0, pel_biquad_coefs, pel_blackman_harris_f32, pel_blackman_harris_q15,
     pel_butterworth_sos, pel_ceil, pel_channelizer_lowpass, pel_channelizer_prototype,
-    pel_channelizer_taps, pel_channelizer_taps_per_branch, pel_cos, pel_delay, pel_design_lowpass,
-    pel_design_new_beta, pel_design_new_cutoff, pel_exp, pel_fabs, pel_floor, pel_gaussian,
-    pel_gaussian_new, pel_halfband, pel_halfband_len, pel_halfband_new, pel_hann_f32, pel_hann_q15,
-    pel_kaiser_beta, pel_kaiser_f32, pel_kaiser_q15, pel_kaiserord, pel_load_cosines, pel_lowpass,
+    pel_channelizer_taps, pel_channelizer_taps_per_branch, pel_check_card, pel_cos, pel_delay,
+    pel_design_lowpass, pel_design_new_beta, pel_design_new_cutoff, pel_design_ticket, pel_exp,
+    pel_fabs, pel_floor, pel_gaussian, pel_gaussian_new, pel_halfband, pel_halfband_len,
+    pel_halfband_new, pel_hann_f32, pel_hann_q15, pel_judge_ticket, pel_kaiser_beta,
+    pel_kaiser_f32, pel_kaiser_q15, pel_kaiserord, pel_load_cosines, pel_lowpass,
     pel_lowpass_cosines, pel_lowpass_cosines_new, pel_lowpass_new, pel_pow04,
-    pel_preemphasis_coefs, pel_q14_from_f64, pel_q15_from_f64, pel_q15_tap, pel_rrc, pel_rrc_len,
-    pel_rrc_new, pel_sin, pel_spec_design, pel_spec_lowpass, pel_spec_num_taps, pel_sqrt,
-    pel_to_f32, pel_to_f32_sos, pel_to_q14, pel_to_q15, pel_window_gain,
+    pel_preemphasis_coefs, pel_q14_from_f64, pel_q15_from_f64, pel_q15_tap, pel_read_ticket,
+    pel_rrc, pel_rrc_len, pel_rrc_new, pel_sin, pel_spec_design, pel_spec_lowpass,
+    pel_spec_num_taps, pel_sqrt, pel_to_f32, pel_to_f32_sos, pel_to_q14, pel_to_q15,
+    pel_window_gain,
 };
 
 /// `number`: the ticket is accepted. Every other number is a refusal, those included that are not named here: later
@@ -57,6 +59,12 @@ pub const TOO_MANY_TAPS: u32 = 9;
 pub const BAD_SUM: u32 = 10;
 /// `number`: an element that Q15 or Q14 can't take.
 pub const BAD_ELEMENT: u32 = 11;
+/// `number`: the bytes end inside a record of a card.
+pub const CUT_SHORT: u32 = 12;
+/// `number`: a kind of ticket that isn't 1 to 6.
+pub const UNKNOWN_KIND: u32 = 13;
+/// `number`: the length of a card's record isn't its kind's.
+pub const BAD_RECORD_LENGTH: u32 = 14;
 /// `number`: a Bessel series of Kaiser's window doesn't settle; a smaller beta is needed.
 pub const NOT_SETTLED: u32 = 16;
 /// `number`: how many coefficients, not 1 to 5.
@@ -100,6 +108,19 @@ pub const PERIODIC: u64 = 0;
 /// The code of a symmetric window.
 pub const SYMMETRIC: u64 = 1;
 
+/// The kind of a low-pass's ticket: cutoff, rate, window, beta, count.
+pub const TICKET_LOWPASS: u64 = 1;
+/// The kind of a specification's: cutoff, transition, attenuation, rate, `max_taps`.
+pub const TICKET_SPEC: u64 = 2;
+/// The kind of a half-band's: beta, count.
+pub const TICKET_HALFBAND: u64 = 3;
+/// The kind of a Gaussian pulse's: bt, samples, span.
+pub const TICKET_GAUSSIAN: u64 = 4;
+/// The kind of a root-raised cosine's: rolloff, samples, span.
+pub const TICKET_RRC: u64 = 5;
+/// The kind of a channelizer's: channels, branch, passband, stopband, attenuation.
+pub const TICKET_CHANNELIZER: u64 = 6;
+
 /// What a designer answers: `pel_report`. A field that doesn't apply is 0.
 #[repr(C)]
 #[derive(Clone, Copy, Debug, Default, PartialEq)]
@@ -122,7 +143,7 @@ pub struct Report {
     /// The index of the element.
     pub index: u64,
     /// Accepted, and of [`pel_bessel_i0`] with [`NOT_SETTLED`] too: the number of taps, terms, half samples, samples,
-    /// elements or coefficients.
+    /// elements, coefficients, tickets or bytes.
     pub count: u64,
     /// Accepted, and of [`pel_bessel_i0`] with [`NOT_SETTLED`] too: a divisor, a factor, a beta, a sum, or a Q15 or Q14
     /// number.
@@ -202,4 +223,37 @@ pub struct GainReport {
     pub gain: f64,
     /// The noise-equivalent bandwidth in bins.
     pub bandwidth: f64,
+}
+
+/// A ticket of a card: `pel_ticket`. Two that hold a NaN are equal where their bits are.
+#[repr(C)]
+#[derive(Clone, Copy, Debug, Default, PartialEq, Eq, Hash)]
+pub struct Ticket {
+    /// [`TICKET_LOWPASS`] and so on.
+    pub kind: u64,
+    /// The fields of the record in their order, floats as their bits. What the kind hasn't is 0, and so is the beta of
+    /// a window other than [`KAISER`]; nobody looks at these.
+    pub fields: [u64; 5],
+}
+
+/// What reading a ticket answers: `pel_reading`.
+#[repr(C)]
+#[derive(Clone, Copy, Debug, Default, PartialEq)]
+pub struct Reading {
+    /// The ticket; zeros after a refusal.
+    pub ticket: Ticket,
+    /// The report, whose count is how many bytes the record takes.
+    pub report: Report,
+}
+
+/// What checking a card answers: `pel_card`.
+#[repr(C)]
+#[derive(Clone, Copy, Debug, Default, PartialEq)]
+pub struct Card {
+    /// How many tickets were read.
+    pub tickets: u64,
+    /// The byte at which reading ended.
+    pub place: u64,
+    /// The report, whose count is the number of tickets.
+    pub report: Report,
 }

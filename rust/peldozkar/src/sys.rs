@@ -9,10 +9,10 @@
 
 use core::slice;
 
-use crate::raw::{Cosines, Design, GainReport, Loaded, Report, Tuned};
+use crate::raw::{Card, Cosines, Design, GainReport, Loaded, Reading, Report, Ticket, Tuned};
 
 mod border {
-    use super::{Cosines, Design, GainReport, Loaded, Report, Tuned};
+    use super::{Card, Cosines, Design, GainReport, Loaded, Reading, Report, Ticket, Tuned};
 
     #[link(name = "peldozkar", kind = "static")]
     unsafe extern "C" {
@@ -111,6 +111,8 @@ mod border {
         pub safe fn pel_q15_tap(tap: f64) -> Report;
         /// A coefficient as a Q14 number.
         pub safe fn pel_q14_from_f64(x: f64) -> Report;
+        /// A ticket, judged without a buffer.
+        pub safe fn pel_judge_ticket(ticket: Ticket) -> Report;
 
         // These take memory.
 
@@ -247,15 +249,19 @@ mod border {
             bytes: usize,
         ) -> Report;
         pub unsafe fn pel_window_gain(source: *const u8, source_bytes: usize) -> GainReport;
+        pub unsafe fn pel_read_ticket(source: *const u8, source_bytes: usize) -> Reading;
+        pub unsafe fn pel_check_card(source: *const u8, source_bytes: usize) -> Card;
+        pub unsafe fn pel_design_ticket(ticket: Ticket, out: *mut u8, bytes: usize) -> Report;
     }
 }
 
 pub use border::{
     pel_bessel_i0, pel_ceil, pel_channelizer_lowpass, pel_channelizer_taps,
     pel_channelizer_taps_per_branch, pel_cos, pel_delay, pel_exp, pel_fabs, pel_floor,
-    pel_gaussian_new, pel_halfband_len, pel_halfband_new, pel_kaiser_beta, pel_kaiserord,
-    pel_lowpass_cosines_new, pel_lowpass_new, pel_pow04, pel_q14_from_f64, pel_q15_from_f64,
-    pel_q15_tap, pel_rrc_len, pel_rrc_new, pel_sin, pel_spec_lowpass, pel_spec_num_taps, pel_sqrt,
+    pel_gaussian_new, pel_halfband_len, pel_halfband_new, pel_judge_ticket, pel_kaiser_beta,
+    pel_kaiserord, pel_lowpass_cosines_new, pel_lowpass_new, pel_pow04, pel_q14_from_f64,
+    pel_q15_from_f64, pel_q15_tap, pel_rrc_len, pel_rrc_new, pel_sin, pel_spec_lowpass,
+    pel_spec_num_taps, pel_sqrt,
 };
 
 /// A function that fills a buffer: the C function with its pointer and length as one slice. Inlined, so that a
@@ -312,6 +318,8 @@ filling! {
     pel_kaiser_f32(beta: f64, symmetry: u64) -> Report;
     /// Kaiser's window as Q15 numbers.
     pel_kaiser_q15(beta: f64, symmetry: u64) -> Report;
+    /// The taps of a ticket.
+    pel_design_ticket(ticket: Ticket) -> Report;
 }
 
 /// A function that converts a source into a buffer: each pointer and its length as one slice.
@@ -350,6 +358,20 @@ pub fn pel_load_cosines(source: &[u8]) -> Loaded {
 pub fn pel_window_gain(source: &[u8]) -> GainReport {
     // SAFETY: the source is so many bytes at a pointer that isn't null.
     unsafe { border::pel_window_gain(source.as_ptr(), source.len()) }
+}
+
+/// The ticket that a source begins with.
+#[inline]
+pub fn pel_read_ticket(source: &[u8]) -> Reading {
+    // SAFETY: the source is so many bytes at a pointer that isn't null.
+    unsafe { border::pel_read_ticket(source.as_ptr(), source.len()) }
+}
+
+/// How far a card can be read.
+#[inline]
+pub fn pel_check_card(source: &[u8]) -> Card {
+    // SAFETY: the source is so many bytes at a pointer that isn't null.
+    unsafe { border::pel_check_card(source.as_ptr(), source.len()) }
 }
 
 /// A number that is its bytes: no padding, and every pattern is a value.

@@ -99,6 +99,35 @@ fn layouts_are_those_of_the_header() {
         (offset_of!(Tuned, design), offset_of!(Tuned, report)),
         (0, 48)
     );
+    assert_eq!(
+        (size_of::<raw::Ticket>(), align_of::<raw::Ticket>()),
+        (48, 8)
+    );
+    assert_eq!(
+        (
+            offset_of!(raw::Ticket, kind),
+            offset_of!(raw::Ticket, fields)
+        ),
+        (0, 8)
+    );
+    assert_eq!(
+        (size_of::<raw::Reading>(), align_of::<raw::Reading>()),
+        (120, 8)
+    );
+    assert_eq!(
+        (
+            offset_of!(raw::Reading, ticket),
+            offset_of!(raw::Reading, report)
+        ),
+        (0, 48)
+    );
+    assert_eq!((size_of::<raw::Card>(), align_of::<raw::Card>()), (88, 8));
+    let places = [
+        offset_of!(raw::Card, tickets),
+        offset_of!(raw::Card, place),
+        offset_of!(raw::Card, report),
+    ];
+    assert_eq!(places, [0, 8, 16]);
 }
 
 #[test]

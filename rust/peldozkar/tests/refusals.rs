@@ -4,7 +4,7 @@ use peldozkar::{
     Carried, Cosines, Error, Lowpass, Reason, Response, Spec, Symmetry, Window, biquad_coefs,
     blackman_harris, butterworth_sos, channelizer_prototype, channelizer_taps, delay, gaussian,
     gaussian_new, halfband, halfband_len, halfband_new, hann, kaiser, kaiserord, lowpass,
-    lowpass_new, preemphasis_coefs, q14_from_f64, q15_tap, raw, rrc, rrc_len, rrc_new, to_f32,
+    lowpass_new, preemphasis_coefs, q14_from_f64, q15_tap, raw, read_ticket, rrc, rrc_len, rrc_new, to_f32,
     to_f32_sos, to_q14, to_q15, window_gain,
 };
 
@@ -110,6 +110,9 @@ fn numbers_are_those_of_the_header() {
         Reason::Cap,
         Reason::Divisor,
         Reason::Element,
+        Reason::CutShort,
+        Reason::Kind,
+        Reason::RecordLength,
         Reason::Unsettled,
         Reason::CoefficientCount,
         Reason::Coefficient,
@@ -118,7 +121,7 @@ fn numbers_are_those_of_the_header() {
     assert!(
         all.map(Reason::number)
             .into_iter()
-            .eq((1..=11).chain(16..=19))
+            .eq((1..=14).chain(16..=19))
     );
     let named = [
         raw::BAD_RATE,
@@ -132,6 +135,9 @@ fn numbers_are_those_of_the_header() {
         raw::TOO_MANY_TAPS,
         raw::BAD_SUM,
         raw::BAD_ELEMENT,
+        raw::CUT_SHORT,
+        raw::UNKNOWN_KIND,
+        raw::BAD_RECORD_LENGTH,
         raw::NOT_SETTLED,
         raw::BAD_COEFFICIENT_COUNT,
         raw::BAD_COEFFICIENT,
@@ -139,7 +145,7 @@ fn numbers_are_those_of_the_header() {
     ];
     assert_eq!(all.map(Reason::number), named);
     assert_eq!(raw::ACCEPTED, 0);
-    assert_eq!(Reason::Unknown(12).number(), 12);
+    assert_eq!(Reason::Unknown(15).number(), 15);
     assert_eq!(Reason::Unknown(20).number(), 20);
 }
 
@@ -792,6 +798,18 @@ fn in_words() {
     assert_eq!(
         told(Cosines::load(&[0.25, 0.5])),
         "refused with 19: the coefficients don't add up to 1: their exact sum may be off by 2^-40 at most"
+    );
+    assert_eq!(
+        told(read_ticket(&[18, 0, 0, 0, 3])),
+        "refused with 12: the bytes end inside a record"
+    );
+    assert_eq!(
+        told(read_ticket(&[18, 0, 0, 0, 7, 0])),
+        "refused with 13: the kind of ticket is unknown"
+    );
+    assert_eq!(
+        told(read_ticket(&[19, 0, 0, 0, 3, 0])),
+        "refused with 14: the record's length isn't its kind's"
     );
     // It is an error like any other.
     let boxed: Box<dyn std::error::Error + Send + Sync> = Box::new(delay(0).unwrap_err());
