@@ -67,7 +67,7 @@ target/tools/design: $(DESIGN) $(addprefix tools/,kinds.h forms.h words.h lists.
 # The exports called from C, with the worked examples, under the address and undefined-behaviour sanitizers.
 c: $(LIB)
 	mkdir -p target/tests
-	for name in elementary designs cosines retune halfband pulses channelizer sections q15 formats windows; do $(CC) $(STRICT) $(CHECKED) tests/c/$$name.c -o target/tests/$$name $(LIB) -lm && target/tests/$$name || exit 1; done
+	for name in elementary designs cosines retune halfband pulses channelizer card sections q15 formats windows; do $(CC) $(STRICT) $(CHECKED) tests/c/$$name.c -o target/tests/$$name $(LIB) -lm && target/tests/$$name || exit 1; done
 
 # The command line of `make run`, and once more with a tap that Q15 can't take.
 tool: target/tools/design

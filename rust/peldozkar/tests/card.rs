@@ -1,4 +1,4 @@
-//! Tickets on a card: records of each kind, whole and broken, and the tickets designed as the functions of their kinds do.
+//! Tickets on a card: records of each kind, whole and broken, and tickets designed beside the functions of their kinds.
 
 use std::error::Error as _;
 
