@@ -187,6 +187,7 @@ const fn plain(reason: Reason) -> Error {
 impl Ticket {
     /// The ticket of a record as C has it. A kind or a window that this crate doesn't know is refused as an unknown
     /// one; only a library that is newer than it reads such a record.
+    #[inline]
     fn of(ticket: &raw::Ticket) -> Result<Self, Error> {
         let [a, b, c, d, e] = ticket.fields;
         match ticket.kind {
@@ -412,6 +413,7 @@ impl Figures {
 /// # Ok(())
 /// # }
 /// ```
+#[inline]
 pub fn read_ticket(source: &[u8]) -> Result<(Ticket, &[u8]), Error> {
     let reading = raw::pel_read_ticket(source);
     let taken = reading.report.counted()?;
