@@ -3,6 +3,7 @@
 // `run compare` takes an export that port.rs calls for one that is compared, so what stands there must be used.
 #![deny(dead_code, unused_imports)]
 
+mod card;
 mod channelizer;
 mod day;
 mod formats;
@@ -41,14 +42,15 @@ fn known(words: &[String], names: &[&str]) -> bool {
         .all(|pair| pair.len() == 2 && names.contains(&pair[0].as_str()))
 }
 
-/// Puts wrong functions, designers and turns in the port's place, and lists of taps that hardly keep
+/// Puts wrong functions, designers, turns and readers of cards in the port's place, and lists of taps that hardly keep
 /// or break a total before its check; true if each one was noticed.
 fn faults_noticed(seed: u64) -> bool {
     let (functions, of_functions) = functions::compare::run_faults(seed);
     let (designers, of_designers) = run::compare::run_faults(seed);
     let (turns, of_turns) = retune::compare::run_faults(seed);
-    let noticed = functions + designers + turns;
-    let all = of_functions + of_designers + of_turns;
+    let (cards, of_cards) = card::compare::run_faults(seed);
+    let noticed = functions + designers + turns + cards;
+    let all = of_functions + of_designers + of_turns + of_cards;
     println!("planted faults: {noticed} of {all} noticed");
     let (judged, lists) = run::totals::run_faults();
     println!("lists of taps for the totals: {judged} of {lists} judged rightly");
@@ -67,7 +69,8 @@ fn run(words: &[String]) -> Option<bool> {
             let functions = functions::compare::run(count, seed);
             let designers = run::compare::run(tickets, seed);
             let turns = retune::compare::run(tickets, seed);
-            Some(ready && functions && designers && turns)
+            let cards = card::compare::run(tickets, seed);
+            Some(ready && functions && designers && turns && cards)
         }
         "day"
             if known(

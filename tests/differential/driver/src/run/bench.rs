@@ -4,8 +4,8 @@ use std::hint::black_box;
 use std::time::Instant;
 
 use crate::{
-    channelizer, formats, functions, gaussian, halfband, lowpass, retune, rrc, sections, spec,
-    windows,
+    card, channelizer, formats, functions, gaussian, halfband, lowpass, retune, rrc, sections,
+    spec, windows,
 };
 
 const ROUNDS: usize = 101;
@@ -89,7 +89,7 @@ pub fn rounds(mut port: impl FnMut() -> f64, mut rust: impl FnMut() -> f64) -> (
 }
 
 /// Prints for each function, kind of design, conversion and window the median over the rounds on both sides, and
-/// their ratio.
+/// their ratio; last how fast a card is read.
 pub fn run() {
     functions::bench::run();
     println!("designs, into buffers that are not cleared between rounds:");
@@ -103,4 +103,5 @@ pub fn run() {
     sections::bench::run();
     formats::bench::run();
     windows::bench::run();
+    card::bench::run();
 }

@@ -3,6 +3,7 @@
 
 use peldozkar::raw::{self, Design, GainReport};
 
+use crate::card::{Checked, Reading, Slip};
 use crate::retune::Tuned;
 use crate::run::report::Report;
 use crate::run::tickets::{
@@ -222,4 +223,20 @@ pub fn window(window: &Window, out: &mut [u8]) -> Report {
 
 pub fn window_gain(source: &[u8]) -> GainReport {
     raw::pel_window_gain(source)
+}
+
+pub fn read_ticket(source: &[u8]) -> Reading {
+    raw::pel_read_ticket(source).into()
+}
+
+pub fn check_card(source: &[u8]) -> Checked {
+    raw::pel_check_card(source).into()
+}
+
+pub fn judge_ticket(slip: &Slip) -> Report {
+    raw::pel_judge_ticket(*slip).into()
+}
+
+pub fn design_ticket(slip: &Slip, out: &mut [u8]) -> Report {
+    raw::pel_design_ticket(*slip, out).into()
 }
