@@ -257,8 +257,8 @@ static void two_faults(void)
 {
     static const uint64_t fields[5] = {1, 2, 4, 3, 5}; /* a window of 4 where there is one */
     static const uint64_t good[5] = {1, 2, 3, 4, 5};
-    static const uint64_t unknown[] = {0, 7, 8, 255, 256, 257, 0x0100, 0x0300, 0x0600, 0x8001, 0xFFFF};
-    uint8_t bytes[2 * MOST];
+    static const uint64_t unknown[] = {0, 7, 8, 255, 256, 257, 0x0300, 0x0600, 0x8001, 0xFFFF};
+    uint8_t bytes[2 * MOST] = {0};
     for (size_t i = 0; i < COUNT(unknown); i++) {
         /* Unknown kinds with lengths of other kinds, with such as no kind has, and cut. */
         static const uint64_t lengths[] = {0, 1, 2, 17, 18, 26, 42, 43, 0xFFFFFFFF};
