@@ -21,7 +21,7 @@ PREFIX ?= /usr/local
 DESTDIR ?=
 VERSION = $(shell sed -n 's/^.define PEL_VERSION "\(.*\)"$$/\1/p' include/peldozkar.h)
 
-.PHONY: run functions test lib install uninstall c tool examples compare day bench list distance divisions clean rust scipy cosines mutants
+.PHONY: run functions test lib install uninstall c tool examples compare day bench list distance divisions clean rust scipy cosines card mutants
 
 # What `make run` designs; say another one as in: make run ARGS="spec --cutoff 1000 --transition 200 --attenuation 60 --rate 8000"
 ARGS ?= lowpass --cutoff 1000 --rate 8000 --taps 31 --window kaiser --beta 5.65326
@@ -90,6 +90,10 @@ scipy: $(LIB)
 # The cosine windows that a customer loads against a model in exact arithmetic; skipped in one line where python3 is not installed.
 cosines: $(LIB)
 	CC="$(CC)" tests/cosines/run $(LIB)
+
+# The reader of cards against a model by the request's text, over a million hostile cards; skipped in one line where python3 is not installed.
+card: $(LIB)
+	CC="$(CC)" tests/card/run $(LIB)
 
 # Both sides on the same inputs, by bits, and whether the long run can be taken up again; each skipped in one line where the Rust files are not at hand.
 compare: $(LIB)
