@@ -14,11 +14,16 @@ standard library alone.
 
 import difflib
 import math
+import struct
 import sys
 from decimal import Decimal as D
 from decimal import getcontext
 from fractions import Fraction as F
 from pathlib import Path
+
+# The reader of cards by the request's text, which stands there.
+sys.path.append(str(Path(__file__).resolve().parent / "card"))
+import model as cards  # noqa: E402
 
 getcontext().prec = 50
 FOLDER = Path(__file__).resolve().parent.parent / "examples" / "c" / "expected"
@@ -556,6 +561,52 @@ def print_cosines():
     yield load("a steep one", "0.5", "-0.25", "0.25", "-0.5", "1.25")
     if refusal_of(lowpass, 1000, 8000, lambda i, n: D(0), 63).number == 10:
         yield "what it left: refused with 10: the taps add up to 0"
+
+
+def print_card():
+    def by_code(cutoff, rate, window, beta, n):
+        return lowpass(cutoff, rate, (hann, hamming, blackman, Kaiser(beta))[window], n)
+
+    def held(count, room):
+        """A ticket that says how many taps it has is held to its buffer before it is designed."""
+        if count != room:
+            raise Refused(8, count, room)
+
+    # Of each kind that is on the card its name, the form of its fields and its design.
+    kinds = {1: ("low-pass", "ddQdQ", by_code), 3: ("half-band", "dQ", halfband), 5: ("root-raised cosine", "dQQ", rrc)}
+    tickets = (1, 1000, 8000, 1, 8, 7), (3, 8, 31), (5, 0.5, 4, 8), (1, 5000, 8000, 3, 8, 7)
+
+    def record(kind, *fields):
+        return struct.pack(f"<IH{kinds[kind][1]}", 2 + 8 * len(fields), kind, *fields)
+
+    def check(name, source):
+        _, n, place, report = cards.check(source)
+        if report.number == 0:
+            return f"{name}: whole, tickets: {n}"
+        return f"{name}: refused with {report.number} at byte {place}, tickets before it: {n}"
+
+    def changed(at, to):
+        return card[:at] + bytes([to]) + card[at + 1 :]
+
+    card = b"".join(record(*ticket) for ticket in tickets)
+    yield check("the card", card)
+    at = 0
+    for (kind, *bits), report in cards.check(card).readings[:-1]:
+        name, form, design = kinds[kind]
+        fields = struct.unpack(f"<{form}", struct.pack(f"<{len(form)}Q", *bits[: len(form)]))
+        try:
+            judged = f"{len(design(*fields))} taps"
+        except Refused as refused:
+            judged = refused_range("{} isn't between {} and {}", refused)
+        yield f"byte {at}: {name} {' '.join(map(short, fields))}: {judged}"
+        at += report.count
+    yield from (show(x, 4, 7) for x in by_code(*tickets[0][1:]))
+    yield "refused with {}: a buffer for {} taps, not {}".format(8, *refusal_of(held, 7, 6).carried)
+    second = len(record(*tickets[0]))
+    yield check("a byte too few", card[:-1])
+    yield check("kind 7", changed(second + 4, 7))
+    yield check("a length that counts itself", changed(second, 4 + card[second]))
+    yield check("window 4", changed(4 + 2 + 2 * 8, 4))
 
 
 def print_spec():
