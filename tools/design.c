@@ -8,6 +8,7 @@
 #include <stdlib.h>
 #include <string.h>
 
+#include "card.h"
 #include "files.h"
 #include "help.h"
 #include "kinds.h"
@@ -27,7 +28,7 @@ static void say_forms(FILE *to, option_set set)
         fprintf(to, "%s%s", lead, name);
         lead = " | ";
     }
-    fputs("]\n", to);
+    fputs(lead[1] == '[' ? "\n" : "]\n", to);
 }
 
 /* The kinds, one a line. */
@@ -78,31 +79,11 @@ static int complain(const char *kind, const char *format, ...)
     return USAGE;
 }
 
-static void say_after(const char *before, double x)
-{
-    fputs(before, stderr);
-    say_number(stderr, x);
-}
-
-/* One line in words: the number, what is wrong, and what was allowed. */
+/* A refusal in one line. */
 static int explain(const struct kind *k, const struct ticket *t, pel_report r)
 {
-    const char *meaning = k->meaning(t, &r);
-    if (meaning == NULL)
-        meaning = common_meaning(r.number);
-    fprintf(stderr, "%s: refused with %" PRIu32 ": %s", program_name(), r.number, meaning);
-    if (r.carries == PEL_RANGE || r.carries == PEL_ELEMENT) {
-        if (r.carries == PEL_ELEMENT)
-            fprintf(stderr, " (index %" PRIu64, r.index);
-        say_after(r.carries == PEL_ELEMENT ? ", smallest " : " (smallest ", r.smallest);
-        say_after(", largest ", r.largest);
-        say_after(", offered ", r.offered);
-        fputc(')', stderr);
-    }
-    if (r.carries == PEL_LENGTH)
-        fprintf(stderr, " (expected %" PRIu64 ", given %" PRIu64 ")", r.expected, r.given);
-    if (r.carries == PEL_CAP)
-        fprintf(stderr, " (needed %" PRIu64 ", allowed %" PRIu64 ")", r.expected, r.given);
+    fprintf(stderr, "%s: ", program_name());
+    say_refusal(stderr, k, t, &r);
     fputc('\n', stderr);
     return (int)r.number;
 }
@@ -221,6 +202,66 @@ static int design(const struct kind *k, struct ticket *t)
     return status;
 }
 
+/* ---- From a card ------------------------------------------------------------------------------ */
+
+/* Why a record of the card can't be had; that it hasn't so many is the fault of the words. */
+static int explain_record(const struct card *c, uint64_t number)
+{
+    if (number > c->found.tickets && c->found.report.number != PEL_ACCEPTED) {
+        fprintf(stderr, "%s: ", program_name());
+        say_broken(stderr, c, number);
+        fputc('\n', stderr);
+        return (int)c->found.report.number;
+    }
+    fprintf(stderr, "%s: no record %" PRIu64 " on %s: it ", program_name(), number, c->source);
+    if (c->n == 0)
+        fputs("is empty\n", stderr);
+    else
+        fprintf(stderr, "has %" PRIu64 ", counted from 1\n", c->found.tickets);
+    return USAGE;
+}
+
+/* The list, and then in one line what its status is for: as where that record is asked for. */
+static int list(const struct card *c, struct ticket *t)
+{
+    struct file to;
+    if (!open_file(&to, t->out))
+        return FAILED;
+    uint64_t number = list_card(to.to, c);
+    if (!finish_file(&to) || !keep_file(&to))
+        return FAILED;
+    if (number == 0)
+        return 0;
+    if (number > c->found.tickets)
+        return explain_record(c, number);
+    struct kind k = take_ticket(c, number, t);
+    return explain(&k, t, k.judge(t));
+}
+
+/* The card's path; null for standard input. */
+static const char *card_path(const struct ticket *t)
+{
+    return strcmp(t->card, "-") == 0 ? NULL : t->card;
+}
+
+static int use_card(struct ticket *t)
+{
+    struct card c;
+    int status;
+    if (!read_card(&c, card_path(t)))
+        return FAILED;
+    if ((t->given & RECORD) == 0) {
+        status = list(&c, t);
+    } else if (t->record == 0 || t->record > c.found.tickets) {
+        status = explain_record(&c, t->record);
+    } else {
+        struct kind k = take_ticket(&c, t->record, t);
+        status = design(&k, t);
+    }
+    free_card(&c);
+    return status;
+}
+
 /* ---- From words to a kind --------------------------------------------------------------------- */
 
 static option_set options_in(const struct kind *k)
@@ -268,6 +309,10 @@ static bool asks_for_help(int n, char **word)
 static int judge_together(const struct kind *k, const struct ticket *t)
 {
     option_set forms = t->given & form_options(k->forms);
+    /* A list comes in no form but its own, and there is nothing to draw. */
+    const char *other = option_of(t->given & EVERY & ~(option_set)OUT, 0);
+    if (k->forms == list_forms && other != NULL)
+        return complain(k->name, "%s goes with --record only", other);
     if (option_of(forms, 1) != NULL)
         return complain(k->name, "%s and %s exclude each other", option_of(forms, 0), option_of(forms, 1));
     if (form_for(k->forms, t->given)->instead != NULL && t->form != AS_TEXT)
@@ -276,6 +321,11 @@ static int judge_together(const struct kind *k, const struct ticket *t)
         return complain(k->name, "--name goes with --form c only");
     if ((t->given & OUT) != 0 && (t->given & PLOT) != 0 && strcmp(t->out, t->plot) == 0)
         return complain(k->name, "--out and --plot name the same file");
+    /* A card is not to be written over. */
+    if ((t->given & CARD) != 0 && (t->given & OUT) != 0 && is_same_file(card_path(t), t->out))
+        return complain(k->name, "--out names the card itself");
+    if ((t->given & CARD) != 0 && (t->given & PLOT) != 0 && is_same_file(card_path(t), t->plot))
+        return complain(k->name, "--plot names the card itself");
     if ((t->given & COEFFICIENTS) != 0 && t->window != OWN_WINDOW)
         return complain(k->name, "--coefficients goes with --window cosines only");
     /* Kaiser's window is the only one with a shape to give, and a customer's own is its coefficients. */
@@ -324,7 +374,7 @@ int main(int argc, char **argv)
         return FAILED;
     }
     t.numbers = numbers;
-    status = design(k, &t);
+    status = (k->needs & CARD) != 0 ? use_card(&t) : design(k, &t);
     free(numbers);
     return status;
 }

@@ -1,4 +1,4 @@
-/* Files that appear whole or not at all. */
+/* Files that appear whole or not at all, and files that are read whole. */
 #define _XOPEN_SOURCE 700
 #include "files.h"
 
@@ -128,4 +128,56 @@ void drop_file(struct file *f)
     free(f->beside);
     free(f->place);
     f->beside = f->place = NULL;
+}
+
+bool is_same_file(const char *source, const char *path)
+{
+    struct stat one, other;
+    if ((source == NULL ? fstat(STDIN_FILENO, &one) : stat(source, &one)) != 0 || stat(path, &other) != 0)
+        return false;
+    return S_ISREG(one.st_mode) && one.st_dev == other.st_dev && one.st_ino == other.st_ino;
+}
+
+/* Null, and why in errno: EFBIG where there are more. One byte beyond the most tells that, however many follow. */
+static uint8_t *read_open(FILE *from, size_t most, size_t *bytes)
+{
+    uint8_t *all = NULL;
+    size_t n = 0;
+    for (size_t room = 4096;; room *= 2) {
+        room = room <= most ? room : most + 1;
+        uint8_t *more = realloc(all, room);
+        if (more == NULL)
+            break;
+        all = more;
+        n += fread(all + n, 1, room - n, from);
+        if (n < room && ferror(from) == 0) {
+            *bytes = n;
+            return all;
+        }
+        if (n > most)
+            errno = EFBIG;
+        if (n > most || n < room)
+            break;
+    }
+    int why = errno;
+    free(all);
+    errno = why;
+    return NULL;
+}
+
+uint8_t *read_file(const char *path, size_t most, size_t *bytes)
+{
+    FILE *from = path == NULL ? stdin : fopen(path, "rb");
+    uint8_t *all = from == NULL ? NULL : read_open(from, most, bytes);
+    int why = errno;
+    if (from != NULL && from != stdin)
+        fclose(from);
+    if (all != NULL)
+        return all;
+    fprintf(stderr, "%s: can't read %s: ", program_name(), path == NULL ? "standard input" : path);
+    if (why == EFBIG)
+        fprintf(stderr, "it has more than %zu bytes\n", most);
+    else
+        fprintf(stderr, "%s\n", strerror(why));
+    return NULL;
 }

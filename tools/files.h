@@ -1,8 +1,11 @@
-/* Files that appear whole or not at all: written beside their place under a name of their own, and renamed. */
+/* Files that appear whole or not at all: written beside their place under a name of their own, and renamed. And files
+ * that are read whole. */
 #ifndef FILES_H
 #define FILES_H
 
 #include <stdbool.h>
+#include <stddef.h>
+#include <stdint.h>
 #include <stdio.h>
 
 struct file {
@@ -23,5 +26,12 @@ bool keep_file(struct file *f);
 
 /* Leaves nothing of it behind. */
 void drop_file(struct file *f);
+
+/* Whether a path leads to the file that another one, or standard input for null, reads: no device, and no pipe. */
+bool is_same_file(const char *source, const char *path);
+
+/* The bytes of a file, or of standard input for a null path, to be freed: null, and what is wrong in one line, where
+ * they can't be read or are more than `most`. */
+uint8_t *read_file(const char *path, size_t most, size_t *bytes);
 
 #endif

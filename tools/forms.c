@@ -91,8 +91,7 @@ struct words samples_of(uint64_t half_samples)
 
 /* ---- From bytes -------------------------------------------------------------------------------- */
 
-/* Little-endian bytes as bits, whatever the machine's own order. */
-static uint64_t bits_at(const uint8_t *bytes, size_t width)
+uint64_t bits_at(const uint8_t *bytes, size_t width)
 {
     uint64_t bits = 0;
     for (size_t i = width; i-- > 0;)
@@ -179,6 +178,12 @@ const struct form window_forms[] = {
     {0, 4, 0, NULL, &window_f32, NULL},
     {Q15, 2, 0, NULL, &window_q15, NULL},
     {GAIN, 4, 0, NULL, &window_f32, say_gain},
+    {0, 0, 0, NULL, NULL, NULL},
+};
+
+/* A list is words, and comes in no other form. */
+const struct form list_forms[] = {
+    {0, 8, 0, NULL, &f64, NULL},
     {0, 0, 0, NULL, NULL, NULL},
 };
 

@@ -37,7 +37,7 @@ struct form {
 };
 
 /* The forms of a kind of number, the one without an option first, up to one that is 0 bytes wide. */
-extern const struct form tap_forms[], section_forms[], preemphasis_forms[], window_forms[];
+extern const struct form tap_forms[], section_forms[], preemphasis_forms[], window_forms[], list_forms[];
 
 /* All options of the forms. */
 option_set form_options(const struct form *forms);
@@ -50,6 +50,9 @@ void print_text(FILE *to, const struct form *f, const uint8_t *bytes, size_t n);
 
 /* The numbers, one at least, as a constant array of C that reads back to the same bits. */
 void print_c(FILE *to, const struct form *f, const uint8_t *bytes, size_t n, const char *name);
+
+/* Little-endian bytes as bits, whatever the machine's own order. */
+uint64_t bits_at(const uint8_t *bytes, size_t width);
 
 /* What the numbers are worth, in room for n of them. */
 void worth(const struct form *f, const uint8_t *bytes, size_t n, double *out);

@@ -89,6 +89,11 @@ static const struct help helps[] = {
      "  --beta B           the window's shape; finite and not negative, and its series settles up to\n"
      "                     about 714\n" WINDOW_HELP,
      "kaiser --beta 8.6 --samples 64 --symmetry symmetric"},
+    {"card", "the tickets on a card: a list with a verdict each, or the taps of one",
+     "  FILE               the card, of 2^24 bytes at most; - reads standard input\n"
+     "  --record N         design ticket N, counted from 1, instead of listing them all; all options below but\n"
+     "                     --out go with it only\n" TAP_HELP,
+     "card field.card --record 2"},
 };
 
 const char every_help[] =

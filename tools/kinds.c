@@ -33,9 +33,44 @@ const char *common_meaning(uint32_t number)
         return "the sum that the taps are divided by is zero or not finite: too few taps for the window";
     case PEL_BAD_ELEMENT:
         return "a tap is too large for Q15";
+    case PEL_CUT_SHORT:
+        return "the card ends inside a record";
+    case PEL_UNKNOWN_KIND:
+        return "the kind of a ticket must be 1 to 6";
+    case PEL_BAD_RECORD_LENGTH:
+        return "a record's length must be its kind's";
     default:
         return "the ticket is refused";
     }
+}
+
+const char *meaning_of(const struct kind *k, const struct ticket *t, const pel_report *r)
+{
+    const char *meaning = k->meaning(t, r);
+    return meaning != NULL ? meaning : common_meaning(r->number);
+}
+
+static void say_after(FILE *to, const char *before, double x)
+{
+    fputs(before, to);
+    say_number(to, x);
+}
+
+void say_refusal(FILE *to, const struct kind *k, const struct ticket *t, const pel_report *r)
+{
+    fprintf(to, "refused with %" PRIu32 ": %s", r->number, meaning_of(k, t, r));
+    if (r->carries == PEL_RANGE || r->carries == PEL_ELEMENT) {
+        if (r->carries == PEL_ELEMENT)
+            fprintf(to, " (index %" PRIu64, r->index);
+        say_after(to, r->carries == PEL_ELEMENT ? ", smallest " : " (smallest ", r->smallest);
+        say_after(to, ", largest ", r->largest);
+        say_after(to, ", offered ", r->offered);
+        fputc(')', to);
+    }
+    if (r->carries == PEL_LENGTH)
+        fprintf(to, " (expected %" PRIu64 ", given %" PRIu64 ")", r->expected, r->given);
+    if (r->carries == PEL_CAP)
+        fprintf(to, " (needed %" PRIu64 ", allowed %" PRIu64 ")", r->expected, r->given);
 }
 
 /* A series that doesn't settle, and what to do about it: by the beta, or by the attenuation that beta is for, whose size
@@ -482,4 +517,6 @@ const struct kind kinds[KINDS] = {
      judge_window, fill_blackman_harris, mean_window},
     {"kaiser", "--beta B " WINDOW_USAGE, BETA | SAMPLES, SYMMETRY, "samples", window_forms, WINDOW_PARTS, show_kaiser,
      judge_kaiser, fill_kaiser, mean_window},
+    {"card", "FILE", CARD, 0, "tickets", list_forms, TAP_PARTS, NULL, NULL, NULL, NULL},
+    {"card", "FILE --record N", CARD | RECORD, 0, "taps", tap_forms, TAP_PARTS, NULL, NULL, NULL, NULL},
 };

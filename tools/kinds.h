@@ -4,6 +4,7 @@
 
 #include <stddef.h>
 #include <stdint.h>
+#include <stdio.h>
 
 #include "forms.h"
 #include "peldozkar.h"
@@ -26,10 +27,15 @@ struct kind {
     const char *(*meaning)(const struct ticket *t, const pel_report *r);
 };
 
-/* What a refusal means where it means the same for every kind. */
+/* What a refusal means where it means the same for every kind, and for this kind in any case. */
 const char *common_meaning(uint32_t number);
+const char *meaning_of(const struct kind *k, const struct ticket *t, const pel_report *r);
 
-enum { KINDS = 13 };
+/* A refusal in words: the number, what is wrong, and what was allowed. */
+void say_refusal(FILE *to, const struct kind *k, const struct ticket *t, const pel_report *r);
+
+/* The rows of a card have nothing that judges, fills or shows: its tickets do that. */
+enum { KINDS = 15 };
 extern const struct kind kinds[KINDS];
 
 #endif

@@ -261,14 +261,7 @@ static void put_head(const struct subject *s, struct picture *p)
         used += (size_t)snprintf(p->title + used, room - used, ", %zu %s%s", n, counted[s->parts], n == 1 ? "" : "s");
     if (s->format != NULL)
         snprintf(p->title + used, room - used, ", %s", s->format);
-    char all[sizeof p->numbers] = "";
-    FILE *to = fmemopen(all, sizeof all, "w");
-    if (to == NULL)
-        return;
-    say_options(to, s->ticket, s->said, ", ", 2);
-    fclose(to);
-    all[sizeof all - 1] = '\0';
-    strcpy(p->numbers, all + strspn(all, ", "));
+    write_options(p->numbers, sizeof p->numbers, s->ticket, s->said);
 }
 
 static const char no_memory[] = "there is no memory for the picture";

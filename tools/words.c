@@ -1,5 +1,6 @@
 /* Takes the words of a command line apart into a ticket. A word that isn't wholly a number, a count or a
  * known name is refused here; whether the number is a good one is the designer's to judge. */
+#define _XOPEN_SOURCE 700
 #include "words.h"
 
 #include <ctype.h>
@@ -14,7 +15,7 @@
 #include "lists.h"
 #include "turns.h"
 
-enum reading { NUMBER, COUNT, NAME, IDENTIFIER, PATH, LIST, NUMBERS, ALONE };
+enum reading { NUMBER, COUNT, NAME, IDENTIFIER, PATH, LIST, NUMBERS, ALONE, BARE };
 
 /* What an option can be called, in the order of the header's codes, up to a null. */
 struct names {
@@ -35,6 +36,8 @@ static const struct option {
     size_t place; /* where the ticket keeps it; nothing is kept of an option that stands alone */
     const struct names *names;
 } options[] = {
+    {"FILE", CARD, BARE, offsetof(struct ticket, card), NULL},
+    {"--record", RECORD, COUNT, offsetof(struct ticket, record), NULL},
     {"--cutoff", CUTOFF, NUMBER, offsetof(struct ticket, cutoff), NULL},
     {"--rate", RATE, NUMBER, offsetof(struct ticket, rate), NULL},
     {"--transition", TRANSITION, NUMBER, offsetof(struct ticket, transition), NULL},
@@ -149,6 +152,7 @@ static const char *read_value(const struct option *o, const char *word, struct t
         *(const char **)place = word;
         return is_identifier(word) ? NULL : "not a C identifier:";
     case PATH:
+    case BARE:
         *(const char **)place = word;
         return *word != '\0' ? NULL : "not a file's name:";
     case LIST:
@@ -163,10 +167,12 @@ static const char *read_value(const struct option *o, const char *word, struct t
     return NULL;
 }
 
+/* A word without a dash, or a dash alone, is a value whose option has no name of its own, where there is such a one. */
 static const struct option *find(const char *word, option_set allowed)
 {
+    bool bare = word[0] != '-' || word[1] == '\0';
     for (size_t k = 0; k < OPTIONS; k++)
-        if ((options[k].bit & allowed) != 0 && strcmp(word, options[k].name) == 0)
+        if ((options[k].bit & allowed) != 0 && (options[k].reading == BARE ? bare : strcmp(word, options[k].name) == 0))
             return &options[k];
     return NULL;
 }
@@ -178,13 +184,12 @@ struct complaint take_words(int n, char **word, option_set allowed, struct ticke
         if (o == NULL)
             return (struct complaint){"unknown word", word[i]};
         if ((t->given & o->bit) != 0)
-            return (struct complaint){"given twice:", word[i]};
+            return (struct complaint){o->reading == BARE ? "more than one file:" : "given twice:", word[i]};
         t->given |= o->bit;
         if (o->reading == ALONE)
             continue;
-        if (i + 1 == n)
-            return (struct complaint){"a value is missing after", word[i]};
-        i++;
+        if (o->reading != BARE && ++i == n)
+            return (struct complaint){"a value is missing after", word[i - 1]};
         const char *what = read_value(o, word[i], t);
         if (what != NULL)
             return (struct complaint){what, word[i]};
@@ -213,7 +218,7 @@ static void say_value(FILE *to, const struct ticket *t, const struct option *o)
         fprintf(to, "%" PRIu64, *(const uint64_t *)place);
     if (o->reading == NAME)
         fputs(o->names->name[*(const uint64_t *)place], to);
-    if (o->reading == IDENTIFIER || o->reading == PATH || o->reading == LIST)
+    if (o->reading == IDENTIFIER || o->reading == PATH || o->reading == LIST || o->reading == BARE)
         fputs(*(const char *const *)place, to);
     if (o->reading == NUMBERS)
         say_list(to, *(const char *const *)place);
@@ -226,6 +231,27 @@ void say_options(FILE *to, const struct ticket *t, option_set set, const char *l
             fprintf(to, "%s%s", lead, options[k].name + skip);
             say_value(to, t, &options[k]);
         }
+}
+
+void write_options(char *text, size_t room, const struct ticket *t, option_set set)
+{
+    text[0] = '\0';
+    FILE *to = fmemopen(text, room, "w");
+    if (to == NULL)
+        return;
+    say_options(to, t, set, ", ", 2);
+    fclose(to);
+    text[room - 1] = '\0';
+    size_t lead = strspn(text, ", ");
+    memmove(text, text + lead, strlen(text + lead) + 1);
+}
+
+void put_option(struct ticket *t, option_set bit, uint64_t value)
+{
+    for (size_t k = 0; k < OPTIONS; k++)
+        if (options[k].bit == bit)
+            memcpy((char *)t + options[k].place, &value, sizeof value);
+    t->given |= bit;
 }
 
 const char *option_of(option_set set, int i)

@@ -47,6 +47,9 @@ enum {
 /* Of a low-pass, past the bits that an enum's constant has. */
 #define TURNS ((option_set)1 << 31)
 #define COEFFICIENTS ((option_set)1 << 32)
+/* Of a card: the word without a name, and which of its records. */
+#define CARD ((option_set)1 << 33)
+#define RECORD ((option_set)1 << 34)
 
 /* The options that every kind has. */
 enum { EVERY = FORM | ARRAY | OUT | PLOT };
@@ -61,12 +64,15 @@ enum { AS_TEXT = 0, AS_C = 1, AS_RAW = 2 };
 struct ticket {
     double cutoff, rate, transition, attenuation, beta, bt, passband, stopband, rolloff, centre, q, tau;
     uint64_t taps, max_taps, window, samples, span, channels, branch, response, order, symmetry, form;
-    const char *array, *out, *plot, *turns, *coefficients;
+    uint64_t record;
+    const char *array, *out, *plot, *turns, *coefficients, *card;
     option_set given;
     /* The numbers of --coefficients, and the window that they make once they are judged. */
     const uint8_t *numbers;
     size_t numbers_bytes;
     pel_cosines own;
+    /* What stands on the card that the other numbers were taken from. */
+    pel_ticket written;
 };
 
 /* What is wrong, and with which word; `what` is null where nothing is. */
@@ -80,6 +86,12 @@ struct complaint take_words(int n, char **word, option_set allowed, struct ticke
 /* The options of a set that were given, in one order whatever that of the words: each after `lead`, without the
  * first `skip` letters of its name, and its value behind a blank, with digits that name the very number. */
 void say_options(FILE *to, const struct ticket *t, option_set set, const char *lead, int skip);
+
+/* The same in room for so many letters, as pictures and lists have it: cutoff 1000, rate 8000. */
+void write_options(char *text, size_t room, const struct ticket *t, option_set set);
+
+/* Gives an option the value that eight bytes of a card are: a number's bits, a count, or a name's code. */
+void put_option(struct ticket *t, option_set bit, uint64_t value);
 
 /* The name of option i of a set, counted from 0; null where the set has no more. */
 const char *option_of(option_set set, int i);
