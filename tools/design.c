@@ -28,7 +28,7 @@ static void say_forms(FILE *to, option_set set)
         fprintf(to, "%s%s", lead, name);
         lead = " | ";
     }
-    fputs(lead[1] == '[' ? "\n" : "]\n", to);
+    fputs(set == 0 ? "\n" : "]\n", to);
 }
 
 /* The kinds, one a line. */
