@@ -1,4 +1,4 @@
--- The refusals' numbers are 1 to 11 and 16 to 19, and what a caller hears of a verdict whose refusal has one of them is what
+-- The refusals' numbers are 1 to 14 and 16 to 19, and what a caller hears of a verdict whose refusal has one of them is what
 -- demand 1 says. Assumes nothing.
 use Prim.Native.Nat.{ℕ, _-_, _%_, _≤_}
 use mathlib.Core.Path.{_≡_, refl, sym, _∙_, subst}
@@ -55,7 +55,7 @@ one-of p k (n ∷ ns) h l = go (eqb k n) (eqb-true k n) (λ m. one-of p k ns (an
     go false e rest l = rest l
 
 abbrev isKnown : ℕ → Bool
-isKnown k = (leb 1 k && leb k 11) || (leb 16 k && leb k 19)
+isKnown k = (leb 1 k && leb k 14) || (leb 16 k && leb k 19)
 
 all-known : T (every isKnown refusals)
 unfolding every
@@ -65,11 +65,11 @@ all-known = tt
 within : (a b k : ℕ) → T (leb a k && leb k b) → (a ≤ k) × (k ≤ b)
 within a b k h = (leb-true a k (is-true (leb a k) (and-l (leb a k) (leb k b) h)), leb-true k b (is-true (leb k b) (and-r (leb a k) (leb k b) h)))
 
--- "1 to 11", and 16 to 19
-pub between : (k : ℕ) → IsRefusal k → ((1 ≤ k) × (k ≤ 11)) ⊎ ((16 ≤ k) × (k ≤ 19))
-between k l = go (leb 1 k && leb k 11) (within 1 11 k) (one-of isKnown k refusals all-known l)
+-- 1 to 14, and 16 to 19
+pub between : (k : ℕ) → IsRefusal k → ((1 ≤ k) × (k ≤ 14)) ⊎ ((16 ≤ k) × (k ≤ 19))
+between k l = go (leb 1 k && leb k 14) (within 1 14 k) (one-of isKnown k refusals all-known l)
   where
-    go : (b : Bool) → (T b → (1 ≤ k) × (k ≤ 11)) → T (b || (leb 16 k && leb k 19)) → ((1 ≤ k) × (k ≤ 11)) ⊎ ((16 ≤ k) × (k ≤ 19))
+    go : (b : Bool) → (T b → (1 ≤ k) × (k ≤ 14)) → T (b || (leb 16 k && leb k 19)) → ((1 ≤ k) × (k ≤ 14)) ⊎ ((16 ≤ k) × (k ≤ 19))
     go true f h = inl (f tt)
     go false f h = inr (within 16 19 k h)
 
@@ -98,8 +98,8 @@ numbered (Refused why) {k} e l = record {
   only = λ z. absurd (never-zero (reportOf why .number) l (sym e ∙ z));
 }
 
--- "the number is 0 or one of 1 to 11", or 16 to 19
-pub zero-or-between : {v : Verdict} {k : ℕ} → Numbered v k → (k ≡ 0) ⊎ (((1 ≤ k) × (k ≤ 11)) ⊎ ((16 ≤ k) × (k ≤ 19)))
+-- "the number is 0 or one of" the refusals': 1 to 14 or 16 to 19
+pub zero-or-between : {v : Verdict} {k : ℕ} → Numbered v k → (k ≡ 0) ⊎ (((1 ≤ k) × (k ≤ 14)) ⊎ ((16 ≤ k) × (k ≤ 19)))
 zero-or-between {v} {k} n = either (n .number) (λ e. inl e) (λ l. inr (between k l))
 
 -- ---- what is told of each kind of answer

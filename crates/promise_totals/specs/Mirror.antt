@@ -47,7 +47,7 @@ halfband-symmetric beta n = go (halfbandOf beta n) refl
         subst (λ (m : ℕ). Symmetric m (tapOf d)) (sym count) (record { mirrored = mirror beta n d e; zeros = zero-taps beta n d e })
     go (Refused why) e = tt
 
-bytes-symmetric : (beta : Float) (len : ℕ) → WhereMade (halfbandBytes beta len)
+pub bytes-symmetric : (beta : Float) (len : ℕ) → WhereMade (halfbandBytes beta len)
 bytes-symmetric beta len = either-way WhereMade (eqb (len % 8) 0) (outcomeOf (halfbandOf beta (len / 8))) (Outcome.Refused (Refusal.Length (len - len % 8) len)) (halfband-symmetric beta (len / 8)) tt
 
 -- ---- the statements, of the export's report r and of its buffer afterwards
@@ -75,10 +75,17 @@ unfolding acceptedOf
 symmetric-vanishes (Outcome.Designed n divisor tap) before (taps, fit) s e i h p q = subst IsZero (sym (ap floatOf (tap-bytes n tap i h) ∙ float-bytes (tap i) (fit i))) (s .zeros i h p q)
 symmetric-vanishes (Outcome.Refused why) before numbered s e i h p q = absurd (numbered e)
 
+module _ {o : Outcome} {before after : List ℕ} {r : Report} (sound : Sound o) (made : WhereMade o) (w : Writes floatBytes o before r after) where
+  pub mirrored-written : Mirrored r after
+  mirrored-written = by-writes Mirrored w (symmetric-mirrored o before sound made)
+
+  pub zeros-written : Vanishes r after
+  zeros-written = by-writes Vanishes w (symmetric-vanishes o before sound made)
+
 -- ---- of `pel_halfband`; `Writes` is what it ensures
 module _ (beta : Float) (before after : List ℕ) (r : Report) (w : Writes floatBytes (halfbandBytes beta (length before)) before r after) where
   pub halfband-mirrored : Mirrored r after
-  halfband-mirrored = by-writes Mirrored w (symmetric-mirrored (halfbandBytes beta (length before)) before (halfband-bytes-sound beta (length before)) (bytes-symmetric beta (length before)))
+  halfband-mirrored = mirrored-written (halfband-bytes-sound beta (length before)) (bytes-symmetric beta (length before)) w
 
   pub halfband-zeros : Vanishes r after
-  halfband-zeros = by-writes Vanishes w (symmetric-vanishes (halfbandBytes beta (length before)) before (halfband-bytes-sound beta (length before)) (bytes-symmetric beta (length before)))
+  halfband-zeros = zeros-written (halfband-bytes-sound beta (length before)) (bytes-symmetric beta (length before)) w

@@ -63,7 +63,7 @@ sound-totals (Outcome.Designed n divisor tap) before (taps, fit) =
     record { taps = λ e. p .taps; codes = λ e t u. p .codes t }
 sound-totals (Outcome.Refused why) before numbered = record { taps = λ e t u. absurd (numbered e); codes = λ e t u v w. absurd (numbered e) }
 
-of-writes : {o : Outcome} {before after : List ℕ} {r : Report} → Sound o → Writes floatBytes o before r after → Totals r after
+pub of-writes : {o : Outcome} {before after : List ℕ} {r : Report} → Sound o → Writes floatBytes o before r after → Totals r after
 of-writes {o} {before} s w = by-writes Totals w (sound-totals o before s)
 
 -- ---- of each export; `Writes` is what it ensures
