@@ -19,8 +19,8 @@ pub struct TicketRead {
 }
 
 // Reads the record that the bytes begin with: how many of them it takes as the count, so that the others stay unread.
-// Refused, in this order, with a ticket of zeros: 12 fewer than six bytes; 13 a kind that isn't 1 to 6; 14 a length that
-// isn't the kind's; 12 fewer bytes than the record takes; 7 a window above 3. No other field is judged. Example: a
+// Refused, in this order, with a ticket of zeros: 12 fewer than six bytes; 13 a kind that isn't 1 to 6; 14 a length
+// that isn't the kind's; 12 fewer bytes than the record takes; 7 a window above 3. No other field is judged. Example: a
 // half-band's record takes 22 bytes.
 #[no_mangle]
 pub extern "C" fn pel_read_ticket(src: &[u8]) -> TicketRead

@@ -5,3 +5,4 @@ pub mod ReadsLaws
 pub mod Tickets
 pub mod TicketsLaws
 pub mod Worked
+pub mod Met

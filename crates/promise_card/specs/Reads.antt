@@ -1,5 +1,5 @@
--- Demand 1 of the reader, in its own words: what a caller of `pel_read_ticket` and of `pel_check_card` holds afterwards.
--- Definitions only.
+-- Demand 1 of the reader, in its own words: what a caller of `pel_read_ticket` and of `pel_check_card` holds
+-- afterwards. Definitions only.
 use Prim.Native.Nat.{ℕ, _<_}
 use mathlib.Core.Path.{_≡_}
 use mathlib.Core.List.{List}
@@ -22,8 +22,8 @@ abbrev pub ofReading : Reading → Verdict
 ofReading (Read t k) = Verdict.Done
 ofReading (Refused why) = Verdict.Refused why
 
--- a ticket that the bytes s hold: its numbers are those told, which are taken for that very ticket again, and the record
--- takes as many bytes as told
+-- a ticket that the bytes s hold: its numbers are those told, which are taken for that very ticket again, and the
+-- record takes as many bytes as told
 pub record Held (s : List ℕ) (r : TicketRead) : Type 0 where
   pub ticket : Ticket
   pub read : readOf s ≡ Read ticket (r .report .count)

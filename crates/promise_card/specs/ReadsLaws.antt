@@ -8,17 +8,16 @@ use lib.ListN.{length, drop, getD}
 use Rattle.laws.specs.Cases.{either-way}
 use Rattle.verdict.specs.Report.{reportOf, acceptedOf}
 use Rattle.verdict.specs.Reports.{doneReport}
-use Rattle.verdict.specs.declared.Refusal.{Refusal}
 use Rattle.verdict.specs.declared.Report.{Report}
 use Rattle.verdict.specs.declared.Verdict.{Verdict}
 use Rattle.verdict.specs.declared.Verdict.the-variants as Verdict
-use Rattle.ticket_kinds.specs.Kinds.{windowOf, hasCode, windowCode, fieldCount, windowTaken, ticketOf, numbersOf}
+use Rattle.ticket_kinds.specs.Kinds.{windowOf, hasCode, windowCode, fieldCount, windowTaken, ticketOf}
 use Rattle.ticket_kinds.specs.KindsLaws.{formed-back}
 use Rattle.ticket_kinds.specs.declared.Ticket.{Ticket}
 use Rattle.ticket_kinds.specs.declared.TicketWindow.{TicketWindow}
 use Rattle.ticket_card.specs.declared.Reading.{Reading}
 use Rattle.ticket_card.specs.declared.Reading.the-variants.{Read, Refused}
-use Rattle.ticket_card.specs.Card.{fieldsIn, following, recordLength, lengthIn, kindIn, refused, readOf}
+use Rattle.ticket_card.specs.Card.{fieldsIn, following, recordLength, lengthIn, kindIn, readOf}
 use Rattle.ticket_card.specs.Cards.{CardReads}
 use Rattle.ticket_card.specs.Readings.{numbersIn, read-begins}
 use Rattle.c_card.specs.Cards.{noTicket, toldOf, ChecksCard}

@@ -1,7 +1,7 @@
 -- Demands 1 and 3 of designed tickets, from what the exports ensure: a kind at a time. Assumes nothing.
 use Prim.Native.Nat.{ℕ, _-_, _/_, _%_}
-use mathlib.Core.Path.{_≡_, refl, sym, ap, _∙_, subst}
-use mathlib.Core.Bool.{Bool, true, false, true≢false, cond}
+use mathlib.Core.Path.{_≡_, refl, sym, ap, _∙_}
+use mathlib.Core.Bool.{Bool, true, false, cond}
 use mathlib.Core.List.{List, [], _∷_}
 use native.Mathlib.Omega.{arith}
 use lib.Dec.{eqb}
@@ -18,7 +18,6 @@ use Rattle.wire.specs.Bytes.{floatBytes}
 use Rattle.wire.specs.Writes.{Writes, wholeTaps}
 use Rattle.wire.specs.WritesLaws.{writes-same}
 use Rattle.fir_lowpass.specs.Lowpass as Lowpass
-use Rattle.fir_spec.specs.Spec.{specDesignOf}
 use Rattle.fir_halfband.specs.Halfband as Halfband
 use Rattle.fir_gaussian.specs.Gaussian as Gaussian
 use Rattle.fir_rrc.specs.Rrc as Rrc
@@ -31,7 +30,7 @@ use Rattle.ticket_kinds.specs.declared.Ticket.the-variants as Ticket
 use Rattle.ticket_kinds.specs.declared.numbers.Numbers.{Numbers}
 use Rattle.ticket_kinds.specs.declared.numbers.Formed.{Formed}
 use Rattle.ticket_kinds.specs.declared.numbers.Formed.the-variants as Formed
-use Rattle.ticket_design.specs.Design.{float, windowFor, specFor, whereCounted, ticketOutcome, ticketBytes, judgementOf, ownLength}
+use Rattle.ticket_design.specs.Design.{float, windowFor, specFor, whereCounted, ticketOutcome, ticketBytes, ownLength}
 use Rattle.ticket_card.specs.declared.Reading.{Reading}
 use Rattle.ticket_card.specs.Card.{readOf}
 use Rattle.c_card.specs.Cards.{toldOf}
@@ -43,7 +42,7 @@ use Rattle.promise_refusals.specs.Demand.{listed}
 use Rattle.promise_refusals.specs.Listed.{Listed, never-zero}
 use Rattle.promise_refusals.specs.Judgements.{whole-listed, lowpass-listed, spec-design-listed, halfband-listed, gaussian-listed, gaussian-fitted-listed, rrc-listed, rrc-fitted-listed, channelizer-listed, channelizer-fitted-listed}
 use Rattle.promise_totals.specs.Sound.{Sound, lowpass-bytes-sound, spec-bytes-sound, halfband-bytes-sound, gaussian-bytes-sound, channelizer-bytes-sound}
-use Rattle.promise_totals.specs.Written.{Totals, of-writes}
+use Rattle.promise_totals.specs.Written.{of-writes}
 use Rattle.promise_totals.specs.Filter.{filter-total, whole-taps}
 use Rattle.promise_totals.specs.Mirror.{WhereMade, bytes-symmetric, mirrored-written, zeros-written}
 use Rattle.promise_card.specs.ReadsLaws.{read-coded}
@@ -103,7 +102,7 @@ length-sound : (e g : ℕ) → Sound (Outcome.Refused (Refusal.Length e g))
 unfolding reportOf listed
 length-sound e g = refused-sound (Refusal.Length e g) tt
 
-ticket-sound : (t : Ticket) (len : ℕ) → Divided (kindOf t) → Sound (ticketBytes t len)
+pub ticket-sound : (t : Ticket) (len : ℕ) → Divided (kindOf t) → Sound (ticketBytes t len)
 unfolding ticketOutcome
 ticket-sound (Ticket.Lowpass t) len d = by-count Sound (t .count) len _ (lowpass-bytes-sound (float (t .cutoff)) (float (t .rate)) (Known (windowFor (t .window))) len) length-sound
 ticket-sound (Ticket.Spec t) len d = spec-bytes-sound (specFor t) (float (t .rate)) (t .cap) len

@@ -9,7 +9,6 @@ use lib.Seq.{drop-drop}
 use Rattle.verdict.specs.declared.Refusal.{Refusal}
 use Rattle.verdict.specs.declared.Verdict.{Verdict}
 use Rattle.verdict.specs.declared.Verdict.the-variants as Verdict
-use Rattle.ticket_kinds.specs.Kinds.{fieldCount}
 use Rattle.ticket_kinds.specs.KindsLaws.{counts}
 use Rattle.ticket_kinds.specs.declared.Ticket.{Ticket}
 use Rattle.ticket_card.specs.declared.Reading.{Reading}

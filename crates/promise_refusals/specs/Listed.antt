@@ -1,5 +1,5 @@
--- The refusals' numbers are 1 to 14 and 16 to 19, and what a caller hears of a verdict whose refusal has one of them is what
--- demand 1 says. Assumes nothing.
+-- The refusals' numbers are 1 to 14 and 16 to 19, and what a caller hears of a verdict whose refusal has one of them is
+-- what demand 1 says. Assumes nothing.
 use Prim.Native.Nat.{ℕ, _-_, _%_, _≤_}
 use mathlib.Core.Path.{_≡_, refl, sym, _∙_, subst}
 use mathlib.Core.Bool.{Bool, true, false, cond, _&&_, _||_}

@@ -12,8 +12,8 @@ ghost use Rattle.fir_rrc.specs.Rrc as Rrc;
 ghost use Rattle.wire.specs.Bytes.{floatBytes};
 ghost use Rattle.wire.specs.Writes.{Writes, wholeTaps};
 
-// Fills the buffer with the taps of a half-band, eight bytes each, as many as it has room for. Refused first: 8 a length
-// that isn't a multiple of 8, with the length to the last whole tap and the length, in bytes; then as
+// Fills the buffer with the taps of a half-band, eight bytes each, as many as it has room for. Refused first: 8 a
+// length that isn't a multiple of 8, with the length to the last whole tap and the length, in bytes; then as
 // `HalfbandDesign::new`. A refusal leaves the buffer as it came.
 pub fn put_halfband(beta: f64, raws: &mut [f64], out: &mut [u8]) -> Report
     ensures { λ r. ⌜ Writes floatBytes (wholeTaps (length (now (out .entry))) (Halfband.outcomeOf (Halfband.halfbandOf beta (length (now (out .entry)) / 8)))) (now (out .entry)) r (now (out .exit)) ⌝ }

@@ -36,8 +36,8 @@ recordLength n = 6 + 8 * n
 abbrev pub refused : ℕ → Reading
 refused number = Refused (Plain number)
 
--- "fewer than six bytes is 12, then 13, 14, and 12 for a short body. A window field above 3 is 7, tested last": k is the
--- kind and n the number of its fields
+-- "fewer than six bytes is 12, then 13, 14, and 12 for a short body. A window field above 3 is 7, tested last": k is
+-- the kind and n the number of its fields
 abbrev pub readKind : ℕ → ℕ → List ℕ → Reading
 readKind k n d =
     let xs = fieldsIn n (drop 6 d) in

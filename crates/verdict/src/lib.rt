@@ -67,7 +67,8 @@ pub enum Length {
     Refused(Refusal),
 }
 
-// What a design is judged to be without its buffer: how many taps, and what they are divided by last, or why it is none.
+// What a design is judged to be without its buffer: how many taps, and what they are divided by last, or why it is
+// none.
 pub enum Judged {
     Accepted(u64, f64),
     Refused(Refusal),

@@ -1,7 +1,6 @@
 -- `c_card::tickets::pel_judge_ticket` meets its contract, a ticket and none. Assumes nothing.
-use mathlib.Core.Path.{_≡_, refl, sym, ap, _∙_}
-use Rattle.verdict.specs.Outcome.{Outcome, judgedOf}
-use Rattle.verdict.specs.Outcome as Outcome
+use mathlib.Core.Path.{sym, ap, _∙_}
+use Rattle.verdict.specs.OutcomeLaws.{judged-told}
 use Rattle.verdict.specs.Reports.{outcomeReport, judgedReport}
 use Rattle.ticket_kinds.specs.declared.numbers.Formed.{Formed}
 use Rattle.ticket_design.specs.Design.{judgementOf}
@@ -9,11 +8,6 @@ use Rattle.c_card.specs.Tickets.{judgedFor}
 use borrow.Author.Needs.{needs}
 use Rattle.c_card.proofs.tickets.pel_judge_ticket.Statement.{statement}
 use Rattle.c_card.proofs.tickets.pel_judge_ticket.Tie as tie
-
--- what is told of a judgement is told of what it judges
-told : (o : Outcome) → judgedReport (judgedOf o) ≡ outcomeReport o
-told (Outcome.Designed n sum tap) = refl
-told (Outcome.Refused why) = refl
 
 ticket-of-requires : tie.Need-ticket-of-requires
 ticket-of-requires c κs = search needs
@@ -36,7 +30,7 @@ refused-requires c κs = search needs
 returns : tie.Need-returns
 returns c =
     let f = c .before .before .before .formed .given in
-    c .told-judged .ensures ∙ ap judgedReport (c .before .judge .ensures) ∙ told (judgementOf (f .0 .0)) ∙ ap (λ (f : Formed). outcomeReport (judgedFor f)) (sym (f .1) ∙ c .before .before .before .before .before .ticket-of .ensures)
+    c .told-judged .ensures ∙ ap judgedReport (c .before .judge .ensures) ∙ judged-told (judgementOf (f .0 .0)) ∙ ap (λ (f : Formed). outcomeReport (judgedFor f)) (sym (f .1) ∙ c .before .before .before .before .before .ticket-of .ensures)
 
 returns-2 : tie.Need-returns-2
 returns-2 c =

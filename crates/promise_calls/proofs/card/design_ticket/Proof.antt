@@ -1,4 +1,5 @@
--- `promise_calls::card::design_ticket` meets its contract: what its export ensures, by demands 1 and 3. Assumes nothing.
+-- `promise_calls::card::design_ticket` meets its contract: what its export ensures, by demands 1 and 3. Assumes
+-- nothing.
 use lib.ListN.{length}
 use Rattle.promise_refusals.specs.Kept.{filled-or-kept}
 use Rattle.promise_card.specs.TicketsLaws.{bytes-listed, ticket-totals, ticket-mirrors}

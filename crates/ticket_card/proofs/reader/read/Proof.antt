@@ -1,10 +1,9 @@
 -- `ticket_card::reader::read` meets its contract, a test at a time. Assumes nothing.
 use mathlib.Core.Path.{sym, ap, _∙_}
-use mathlib.Core.Bool.{false}
 use native.Mathlib.Omega.{arith}
 use borrow.Author.Tests.{ne-eqb}
 use lib.ListN.{drop}
-use Rattle.ticket_kinds.specs.Kinds.{fieldCount, formedOf}
+use Rattle.ticket_kinds.specs.Kinds.{formedOf}
 use Rattle.ticket_kinds.specs.KindsLaws.{counts, formed-numbers}
 use Rattle.ticket_card.specs.Card.{fieldsIn, recordLength}
 use Rattle.ticket_card.specs.Orders.{readAs, too-short, unknown, wrong-length, cut-off, there}
