@@ -13,8 +13,8 @@ use verdict::{Refusal, Report, Verdict};
 
 // Whether two lengths in bytes fit a conversion to elements of so many bytes, of which a group belongs together.
 fn judge_lengths(from: u64, to: u64, wide: u64, group: u64) -> Verdict
-    requires fact_1 { 0 < wide }
-    requires fact_2 { 0 < group }
+    requires wide_low { 0 < wide }
+    requires group_low { 0 < group }
     ensures { result ≡ lengths_of wide group from to }
 {
     if from % 8 != 0 {
@@ -91,8 +91,8 @@ fn store(format: Format, out: &mut [u8], at: usize, pattern: u64)
 
 // The elements of a source of whole f64s into a destination for as many, up to the first that isn't taken.
 fn put_elements(format: Format, src: &[u8], out: &mut [u8]) -> Verdict
-    requires fact_1 { length src.now % 8 ≡ 0 }
-    requires fact_2 { length out.old ≡ width_of format * (length src.now / 8) }
+    requires whole { length src.now % 8 ≡ 0 }
+    requires room { length out.old ≡ width_of format * (length src.now / 8) }
     ensures { ConvertsWhole format src.now out.old result out.new }
 {
     let n = src.len() / 8;
@@ -114,8 +114,8 @@ fn put_elements(format: Format, src: &[u8], out: &mut [u8]) -> Verdict
 // The f32s of a source of whole f64s. Every value has one, so nothing is asked of an element, and the loop is a load, a
 // few operations and a store.
 fn put_singles(src: &[u8], out: &mut [u8])
-    requires fact_1 { length src.now % 8 ≡ 0 }
-    requires fact_2 { length out.old ≡ width_of Single * (length src.now / 8) }
+    requires whole { length src.now % 8 ≡ 0 }
+    requires room { length out.old ≡ width_of Single * (length src.now / 8) }
     ensures { ConvertsWhole Single src.now out.old Done out.new }
 {
     let n = src.len() / 8;
@@ -127,8 +127,8 @@ fn put_singles(src: &[u8], out: &mut [u8])
 
 // The elements in any format, each by its own loop.
 fn put_all(format: Format, src: &[u8], out: &mut [u8]) -> Verdict
-    requires fact_1 { length src.now % 8 ≡ 0 }
-    requires fact_2 { length out.old ≡ width_of format * (length src.now / 8) }
+    requires whole { length src.now % 8 ≡ 0 }
+    requires room { length out.old ≡ width_of format * (length src.now / 8) }
     ensures { ConvertsWhole format src.now out.old result out.new }
 {
     match format {

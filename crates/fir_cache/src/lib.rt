@@ -1,4 +1,6 @@
 // The raw taps of a design that are kept in a list from their sum to their division, so that each is worked out once.
+#![tactic(auto)]
+
 ghost use Rattle.std.specs.Prelude.{◌≡◌, set};
 
 // How many raw taps an export keeps while it designs: 8 kilobytes.

@@ -1,4 +1,6 @@
 // The prototype filter of a channelizer: how many taps its band edges need, and the low-pass itself.
+#![tactic(auto)]
+
 ghost use Rattle.std.specs.Prelude.{◌≡◌, length};
 ghost use Rattle.fir_lowpass.specs.Cached.{PreparesLowpass};
 ghost use Rattle.fir_channelizer.specs.Channelizer.{channels_taken, branch_taken, stop_taken, attenuation_taken, edges_of, count_taken, channelizer_taps_of, branch_of, channelizer_lowpass_of, fitted_of};

@@ -1,4 +1,6 @@
 // The delay of a linear-phase filter, in half samples, so that the half of an even length is kept.
+#![tactic(auto)]
+
 ghost use Rattle.std.specs.Prelude.{◌≡◌};
 ghost use Rattle.fir_delay.specs.Delay.{delay_of};
 

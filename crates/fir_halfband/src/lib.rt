@@ -1,5 +1,7 @@
 // Half-band filters: every second tap but the middle one is zero, the right half mirrors the left, and the taps add up
 // to 1.
+#![tactic(auto)]
+
 ghost use Rattle.std.specs.Prelude.{◌≡◌, ◌<◌};
 ghost use Rattle.std.specs.Float.{binary64};
 ghost use Rattle.laws.specs.Sums.{sum_to};

@@ -1,5 +1,7 @@
 // A low-pass whose knob is turned: designed anew with another cutoff or another beta, as its record says the rest. A
 // turn that is refused leaves the record.
+#![tactic(auto)]
+
 ghost use Rattle.std.specs.Prelude.{◌≡◌};
 ghost use Rattle.fir_lowpass.specs.Cached.{PreparesLowpass};
 ghost use Rattle.fir_retune.specs.Retune.{new_cutoff_of, new_beta_of, retuned_of};

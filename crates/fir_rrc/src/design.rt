@@ -112,9 +112,9 @@ fn pulse_at(b: f64, t: f64) -> f64
 
 // Tap k of n before the scaling.
 fn unscaled_at(b: f64, sps: u64, n: u64, k: u64) -> f64
-    requires fact_1 { n ≤ 2 ^ 24 }
-    requires fact_2 { k < n }
-    requires fact_3 { sps ≤ 2 ^ 24 }
+    requires n_high { n ≤ 2 ^ 24 }
+    requires k_high { k < n }
+    requires sps_high { sps ≤ 2 ^ 24 }
     ensures { result ≡ unscaled_at b sps n k }
 {
     let t = ((k as f64) - ((n - 1) as f64) / 2.0) / (sps as f64);
@@ -123,8 +123,8 @@ fn unscaled_at(b: f64, sps: u64, n: u64, k: u64) -> f64
 
 // The energy of the taps before the scaling, by rising index from +0.
 fn energy(b: f64, sps: u64, n: u64) -> f64
-    requires fact_1 { n ≤ 2 ^ 24 }
-    requires fact_2 { sps ≤ 2 ^ 24 }
+    requires n_high { n ≤ 2 ^ 24 }
+    requires sps_high { sps ≤ 2 ^ 24 }
     ensures { result ≡ sum_to binary64 (λ k. unscaled_at b sps n k ⊗ unscaled_at b sps n k) n }
 {
     let mut sum = 0.0;

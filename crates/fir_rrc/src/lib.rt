@@ -1,2 +1,4 @@
 // The root-raised-cosine pulse.
+#![tactic(auto)]
+
 pub mod design;

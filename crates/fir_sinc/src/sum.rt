@@ -26,10 +26,10 @@ fn take(sum: f64, i: u64, v: f64, raws: &mut [f64]) -> f64
 // Takes raw taps i and i + 1 up, v and w, and stores what they are without their window, a and b, at the places `last`
 // − i and before.
 fn take_two(sum: f64, i: u64, v: f64, w: f64, last: u64, a: f64, b: f64, raws: &mut [f64]) -> f64
-    requires fact_1 { i < last }
-    requires fact_2 { last < 2 ^ 25 }
-    ensures fact_1 { result ≡ sum ⊕ v ⊕ w }
-    ensures fact_2 { raws.new ≡ set (set (set (set raws.old i v) (i + 1) w) (last - i) a) (last - (i + 1)) b }
+    requires i_high { i < last }
+    requires last_high { last < 2 ^ 25 }
+    ensures answer { result ≡ sum ⊕ v ⊕ w }
+    ensures buffer { raws.new ≡ set (set (set (set raws.old i v) (i + 1) w) (last - i) a) (last - (i + 1)) b }
 {
     let one = take(sum, i, v, &mut *raws);
     let two = take(one, i + 1, w, &mut *raws);
@@ -64,12 +64,12 @@ struct Near {
 // Tap i without a window. Its mirror image is tap n − 1 − i; where that is one of the first `half`, `raws` has what it
 // is without a window at i, and where the sinc is seen to be even there, the two are the same.
 fn ideal_near(fc: f64, n: u64, half: u64, i: u64, raws: &[f64]) -> Near
-    requires fact_1 { n ≤ 2 ^ 24 }
-    requires fact_2 { n ≤ length raws.now }
-    requires fact_3 { i < n }
-    requires fact_4 { Mirrors (ideal_at fc n) n half i raws.now }
-    ensures fact_1 { result.ideal ≡ ideal_at fc n i }
-    ensures fact_2 { (result.same ≡ true → IsMirrored fc n half i) }
+    requires n_high { n ≤ 2 ^ 24 }
+    requires raws_room { n ≤ length raws.now }
+    requires i_high { i < n }
+    requires mirrors { Mirrors (ideal_at fc n) n half i raws.now }
+    ensures ideal { result.ideal ≡ ideal_at fc n i }
+    ensures same { result.same ≡ true → IsMirrored fc n half i }
 {
     let j = n - 1 - i;
     if j < half {
@@ -88,12 +88,12 @@ fn ideal_near(fc: f64, n: u64, half: u64, i: u64, raws: &[f64]) -> Near
 
 // The windows at taps i and j, worked out together.
 fn windows_at(w: Window, i0: f64, n: u64, i: u64, j: u64) -> Pair
-    requires fact_1 { 1 < n }
-    requires fact_2 { n ≤ 2 ^ 24 }
-    requires fact_3 { i < n }
-    requires fact_4 { j < n }
-    ensures fact_1 { result.first ≡ window_at w i0 n i }
-    ensures fact_2 { result.second ≡ window_at w i0 n j }
+    requires n_low { 1 < n }
+    requires n_high { n ≤ 2 ^ 24 }
+    requires i_high { i < n }
+    requires j_high { j < n }
+    ensures first { result.first ≡ window_at w i0 n i }
+    ensures second { result.second ≡ window_at w i0 n j }
 {
     let x = arguments_of(w, place_at(w, n, i), place_at(w, n, j));
     values_of(w, i0, x.first, x.second)
@@ -114,9 +114,9 @@ fn keep_next(
     i: u64,
     raws: &mut [f64],
 ) -> u64
-    requires fact_1 { n ≤ 2 ^ 24 }
-    requires fact_2 { i < n }
-    requires fact_3 { PendingTap (raw_at fc w i0 n) (ideal_at fc n) n half p i raws.old }
+    requires n_high { n ≤ 2 ^ 24 }
+    requires i_high { i < n }
+    requires pending_tap { PendingTap (raw_at fc w i0 n) (ideal_at fc n) n half p i raws.old }
     ensures { PendingTap (raw_at fc w i0 n) (ideal_at fc n) n half result (i + 1) raws.new }
 {
     let near = ideal_near(fc, n, half, i, &*raws);
@@ -140,9 +140,9 @@ fn keep_next(
 
 // Caches the raw taps from `from` on, where `raws` has a place for all and keeps those before.
 fn keep_rest(fc: f64, w: Window, i0: f64, n: u64, half: u64, from: u64, raws: &mut [f64])
-    requires fact_1 { n ≤ 2 ^ 24 }
-    requires fact_2 { from ≤ n }
-    requires fact_3 { PendingTap (raw_at fc w i0 n) (ideal_at fc n) n half n from raws.old }
+    requires n_high { n ≤ 2 ^ 24 }
+    requires from_high { from ≤ n }
+    requires pending_tap { PendingTap (raw_at fc w i0 n) (ideal_at fc n) n half n from raws.old }
     ensures { CachesOf (raw_at fc w i0 n) n raws.new }
 {
     let mut p = n;
@@ -158,9 +158,9 @@ fn keep_rest(fc: f64, w: Window, i0: f64, n: u64, half: u64, from: u64, raws: &m
 
 // A sum with the elements of a list from `from` up to n, by rising index.
 fn sum_on(begun: f64, list: &[f64], from: u64, n: u64) -> f64
-    requires fact_1 { n ≤ 2 ^ 24 }
-    requires fact_2 { n ≤ length list.now }
-    requires fact_3 { from ≤ n }
+    requires n_high { n ≤ 2 ^ 24 }
+    requires list_room { n ≤ length list.now }
+    requires from_high { from ≤ n }
     ensures { Adds list.now begun from result n }
 {
     let mut sum = begun;
@@ -184,10 +184,10 @@ fn rest_cached(
     begun: f64,
     raws: &mut [f64],
 ) -> f64
-    requires fact_1 { n ≤ 2 ^ 24 }
-    requires fact_2 { from ≤ n }
-    requires fact_3 { begun ≡ sum_to binary64 (raw_at fc w i0 n) from }
-    requires fact_4 { PendingTap (raw_at fc w i0 n) (ideal_at fc n) n half n from raws.old }
+    requires n_high { n ≤ 2 ^ 24 }
+    requires from_high { from ≤ n }
+    requires begun_is { begun ≡ sum_to binary64 (raw_at fc w i0 n) from }
+    requires pending_tap { PendingTap (raw_at fc w i0 n) (ideal_at fc n) n half n from raws.old }
     ensures { SumCached (raw_at fc w i0 n) n result raws.new }
 {
     keep_rest(fc, w, i0, n, half, from, &mut *raws);
@@ -196,9 +196,9 @@ fn rest_cached(
 
 // The same where it hasn't: each is worked out and taken up.
 fn rest_taken(fc: f64, w: Window, i0: f64, n: u64, from: u64, begun: f64, raws: &mut [f64]) -> f64
-    requires fact_1 { n ≤ 2 ^ 24 }
-    requires fact_2 { from ≤ n }
-    requires fact_3 { SumCached (raw_at fc w i0 n) from begun raws.old }
+    requires n_high { n ≤ 2 ^ 24 }
+    requires from_high { from ≤ n }
+    requires sum_cached { SumCached (raw_at fc w i0 n) from begun raws.old }
     ensures { SumCached (raw_at fc w i0 n) n result raws.new }
 {
     let mut sum = begun;
@@ -252,8 +252,8 @@ fn plan_of(w: Window, n: u64, room: u64) -> Plan
 // one, and two of his roots less than two. What else they need, and the arguments of the next two, stands before the
 // series: a processor mispredicts where these end, and only what comes before that branch is worked out alongside.
 fn summed(fc: f64, w: Window, i0: f64, n: u64, raws: &mut [f64]) -> f64
-    requires fact_1 { 0 < n }
-    requires fact_2 { n ≤ 2 ^ 24 }
+    requires n_low { 0 < n }
+    requires n_high { n ≤ 2 ^ 24 }
     ensures { SumCached (raw_at fc w i0 n) n result raws.new }
 {
     let plan = plan_of(w, n, raws.len() as u64);
@@ -293,9 +293,9 @@ fn summed(fc: f64, w: Window, i0: f64, n: u64, raws: &mut [f64]) -> f64
 
 // The same for any n: 0 for no taps; and for more than a design takes 0, with `raws` as it came.
 pub fn total(fc: f64, w: Window, i0: f64, n: u64, raws: &mut [f64]) -> f64
-    ensures fact_1 { (n ≤ 2 ^ 24 → SumCached (raw_at fc w i0 n) n result raws.new) }
-    ensures fact_2 { (2 ^ 24 < n → result ≡ whole 0) }
-    ensures fact_3 { (2 ^ 24 < n → raws.new ≡ raws.old) }
+    ensures summed { n ≤ 2 ^ 24 → SumCached (raw_at fc w i0 n) n result raws.new }
+    ensures too_many { 2 ^ 24 < n → result ≡ whole 0 }
+    ensures too_many_kept { 2 ^ 24 < n → raws.new ≡ raws.old }
 {
     if n > TAP_LIMIT {
         return 0.0;

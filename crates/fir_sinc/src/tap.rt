@@ -18,8 +18,8 @@ fn sinc_at(x: f64) -> f64
 
 // Where tap i of n lies in the sinc: 2 fc (i − (n − 1)/2).
 pub(crate) fn offset_at(fc: f64, n: u64, i: u64) -> f64
-    requires fact_1 { n ≤ 2 ^ 24 }
-    requires fact_2 { i < n }
+    requires n_high { n ≤ 2 ^ 24 }
+    requires i_high { i < n }
     ensures { result ≡ offset_at fc n i }
 {
     let m = ((n - 1) as f64) / 2.0;
@@ -28,8 +28,8 @@ pub(crate) fn offset_at(fc: f64, n: u64, i: u64) -> f64
 
 // 2 fc sinc(2 fc (i − (n − 1)/2)): tap i of n without a window.
 pub(crate) fn ideal_at(fc: f64, n: u64, i: u64) -> f64
-    requires fact_1 { n ≤ 2 ^ 24 }
-    requires fact_2 { i < n }
+    requires n_high { n ≤ 2 ^ 24 }
+    requires i_high { i < n }
     ensures { result ≡ ideal_at fc n i }
 {
     2.0 * fc * sinc_at(offset_at(fc, n, i))
@@ -37,8 +37,8 @@ pub(crate) fn ideal_at(fc: f64, n: u64, i: u64) -> f64
 
 // Tap i of n before the division: with the window.
 pub(crate) fn raw_at(fc: f64, w: Window, i0: f64, n: u64, i: u64) -> f64
-    requires fact_1 { n ≤ 2 ^ 24 }
-    requires fact_2 { i < n }
+    requires n_high { n ≤ 2 ^ 24 }
+    requires i_high { i < n }
     ensures { result ≡ raw_at fc w i0 n i }
 {
     ideal_at(fc, n, i) * window_at(w, i0, n, i)

@@ -42,9 +42,9 @@ pub fn norm(w: Window) -> f64
 // The window at tap i takes three steps, for a loop that works out the arguments of the next taps before the values of
 // these. The first has its place in it: the angle, or Kaiser's radicand, at tap i of n.
 pub(crate) fn place_at(w: Window, n: u64, i: u64) -> f64
-    requires fact_1 { 0 < n }
-    requires fact_2 { n ≤ 2 ^ 24 }
-    requires fact_3 { i ≤ n + 3 }
+    requires n_low { 0 < n }
+    requires n_high { n ≤ 2 ^ 24 }
+    requires i_high { i ≤ n + 3 }
     ensures { result ≡ place_at w n i }
 {
     curve::place_at(curve_of(w), i as f64, (n - 1) as f64)
@@ -52,8 +52,8 @@ pub(crate) fn place_at(w: Window, n: u64, i: u64) -> f64
 
 // The second, of two taps: what the cosines or the series are taken at.
 pub(crate) fn arguments_of(w: Window, place: f64, other: f64) -> Pair
-    ensures fact_1 { result.first ≡ argument_of (curve_of w) place }
-    ensures fact_2 { result.second ≡ argument_of (curve_of w) other }
+    ensures first { result.first ≡ argument_of (curve_of w) place }
+    ensures second { result.second ≡ argument_of (curve_of w) other }
 {
     curve::arguments_of(curve_of(w), place, other)
 }
@@ -73,8 +73,8 @@ fn value_of(w: Window, i0: f64, x: f64) -> f64
 
 // The windows of two such taps, each arm written out: the loop over the taps is quickest so.
 pub(crate) fn values_of(w: Window, i0: f64, x: f64, y: f64) -> Pair
-    ensures fact_1 { result.first ≡ value_of w i0 x }
-    ensures fact_2 { result.second ≡ value_of w i0 y }
+    ensures first { result.first ≡ value_of w i0 x }
+    ensures second { result.second ≡ value_of w i0 y }
 {
     match w {
         Window::Hann => Pair {
@@ -106,8 +106,8 @@ pub(crate) fn value_at(w: Window, i0: f64, n: u64, x: f64) -> f64
 
 // The window at tap i of n: the three steps.
 pub(crate) fn window_at(w: Window, i0: f64, n: u64, i: u64) -> f64
-    requires fact_1 { n ≤ 2 ^ 24 }
-    requires fact_2 { i < n }
+    requires n_high { n ≤ 2 ^ 24 }
+    requires i_high { i < n }
     ensures { result ≡ window_at w i0 n i }
 {
     value_at(w, i0, n, curve::argument_of(curve_of(w), place_at(w, n, i)))

@@ -1,4 +1,6 @@
 // A low-pass by what it has to do: Kaiser's formulas find how many taps and which beta.
+#![tactic(auto)]
+
 ghost use Rattle.std.specs.Prelude.{◌≡◌};
 ghost use Rattle.fir_lowpass.specs.Cached.{PreparesLowpass};
 ghost use Rattle.fir_spec.specs.Spec.{cutoff_taken, capped_of, spec_order_of, num_taps_of, spec_lowpass_of, spec_design_of};

@@ -1,4 +1,6 @@
 // Q2.14: a coefficient as a whole number of 1/16384, in 16 bits.
+#![tactic(auto)]
+
 ghost use Rattle.std.specs.Prelude.{◌≡◌};
 ghost use Rattle.math_round.specs.Whole.{floor_of};
 ghost use Rattle.verdict.specs.Converts.{Converts};

@@ -1,2 +1,4 @@
 // Taps as the numbers that a filter in fixed point runs on.
+#![tactic(auto)]
+
 pub mod q15;

@@ -1,4 +1,6 @@
 // Butterworth filters as sections, five numbers each, one after the other.
+#![tactic(auto)]
+
 mod section;
 
 ghost use Rattle.std.specs.Prelude.{◌≡◌, ◌+◌, ◌≤◌, length};

@@ -8,8 +8,8 @@ use math_numbers::PI;
 // The angle between the poles of section i, counted from 0, and the negative real axis: with k = i + 1 it is
 // (2 k − 1) π / (2 order) of an even order and k π / order of an odd one.
 fn angle(order: u64, i: u64) -> f64
-    requires fact_1 { order ≤ 8 }
-    requires fact_2 { i ≤ 8 }
+    requires order_high { order ≤ 8 }
+    requires i_high { i ≤ 8 }
     ensures { result ≡ angle_of order i }
 {
     let k = (i + 1) as f64;
@@ -22,8 +22,8 @@ fn angle(order: u64, i: u64) -> f64
 
 // The quality of section i: 1 / (2 cos angle).
 fn quality(order: u64, i: u64) -> f64
-    requires fact_1 { order ≤ 8 }
-    requires fact_2 { i ≤ 8 }
+    requires order_high { order ≤ 8 }
+    requires i_high { i ≤ 8 }
     ensures { result ≡ quality_of order i }
 {
     1.0 / (2.0 * math_trig::cos::cos(angle(order, i)))
@@ -46,8 +46,8 @@ fn first_order(response: Response, s: f64, d: f64) -> [f64; 5]
 // The five numbers of section i. It is of first order where one pole is left after those before it, which have two
 // each.
 pub(crate) fn section_at(response: Response, order: u64, i: u64, cutoff: f64, rate: f64) -> [f64; 5]
-    requires fact_1 { order ≤ 8 }
-    requires fact_2 { i ≤ 8 }
+    requires order_high { order ≤ 8 }
+    requires i_high { i ≤ 8 }
     ensures { result ≡ section_at response order cutoff rate i }
 {
     if order == 2 * i + 1 {

@@ -1,1 +1,3 @@
 // Laws that the other crates cite; no code.
+#![tactic(auto)]
+

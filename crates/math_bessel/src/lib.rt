@@ -1,5 +1,7 @@
 // The modified Bessel function of order 0 by its power series, with the number of terms taken and whether it has
 // settled.
+#![tactic(auto)]
+
 ghost use Rattle.std.specs.Prelude.{◌≡◌, ◌&&◌};
 ghost use Rattle.std.specs.Float.Ieee.{lt};
 ghost use Rattle.std.specs.Float.Ieee.Scale.{finite};
@@ -76,8 +78,8 @@ pub fn bessel_i0(x: f64) -> Series
 // The sums at x and at y, term by term together as long as both go on: a processor divides two numbers in the time of
 // one, and neither sum waits for the other.
 pub fn bessel_i0_pair(x: f64, y: f64) -> Pair
-    ensures fact_1 { result.first ≡ (series_of x).sum }
-    ensures fact_2 { result.second ≡ (series_of y).sum }
+    ensures first { result.first ≡ (series_of x).sum }
+    ensures second { result.second ≡ (series_of y).sum }
 {
     let a = x * 0.5;
     let b = y * 0.5;

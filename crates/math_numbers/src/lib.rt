@@ -1,4 +1,6 @@
 // Tests of numbers, a number as a count, and the two constants that designs share.
+#![tactic(auto)]
+
 ghost use Rattle.std.specs.Prelude.{◌≡◌, true};
 ghost use Rattle.std.specs.Float.Ieee.{to_unsigned};
 ghost use Rattle.std.specs.Float.Ieee.Scale.{finite};
@@ -27,8 +29,8 @@ pub fn is_positive(x: f64) -> bool
 
 // Whether x and y are one and the same value: zeros of unlike signs are not, and a NaN isn't even itself.
 pub fn is_same(x: f64, y: f64) -> bool
-    ensures fact_1 { result ≡ same x y }
-    ensures fact_2 { (result ≡ true → x ≡ y) }
+    ensures answer { result ≡ same x y }
+    ensures if_true { result ≡ true → x ≡ y }
 {
     if x == y {
         f64::to_bits(x) == f64::to_bits(y)

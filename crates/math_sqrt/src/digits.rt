@@ -12,8 +12,8 @@ struct Found {
 
 // One more digit of the root of m * 2 ^ 54.
 fn digit(m: u64, q: u64, rest: u64, i: u64) -> Found
-    requires fact_1 { i < 54 }
-    requires fact_2 { Going m (2 ^ i * 2) q rest }
+    requires i_high { i < 54 }
+    requires going { Going m (2 ^ i * 2) q rest }
     ensures { Going m (2 ^ i) result.q result.rest }
 {
     let r = 1u64 << i;

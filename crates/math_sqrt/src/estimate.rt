@@ -26,10 +26,10 @@ fn refined(w: f64, t: f64) -> f64 {
 // from 2 up, 2 * x, for an x from 1 up to 2. From 2 up, m is even where it comes from an f64, so that its half is
 // exact.
 pub(crate) fn estimate(m: u64) -> u64
-    requires fact_1 { 2 ^ 52 ≤ m }
-    requires fact_2 { m < 2 ^ 54 }
-    ensures fact_1 { 2 ^ 52 ≤ result }
-    ensures fact_2 { result < 2 ^ 53 }
+    requires m_low { 2 ^ 52 ≤ m }
+    requires m_high { m < 2 ^ 54 }
+    ensures low { 2 ^ 52 ≤ result }
+    ensures high { result < 2 ^ 53 }
 {
     let mut d = m;
     let mut by = 1.0;

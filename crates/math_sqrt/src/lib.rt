@@ -1,4 +1,6 @@
 // The square root of an f64, rounded once.
+#![tactic(auto)]
+
 mod digits;
 mod estimate;
 mod format;

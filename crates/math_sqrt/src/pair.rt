@@ -25,12 +25,12 @@ struct Patterns {
 // The patterns of the roots of two finite values that are not subnormal, by their patterns. Both guesses stand before
 // either is settled, so that they become vector instructions.
 fn sqrt_bits_pair(a: u64, b: u64) -> Patterns
-    requires fact_1 { 2 ^ 52 ≤ a }
-    requires fact_2 { a < 2047 * 2 ^ 52 }
-    requires fact_3 { 2 ^ 52 ≤ b }
-    requires fact_4 { b < 2047 * 2 ^ 52 }
-    ensures fact_1 { RootBits (mag_of (a / 2 ^ 52) (a % 2 ^ 52)) result.first }
-    ensures fact_2 { RootBits (mag_of (b / 2 ^ 52) (b % 2 ^ 52)) result.second }
+    requires a_low { 2 ^ 52 ≤ a }
+    requires a_high { a < 2047 * 2 ^ 52 }
+    requires b_low { 2 ^ 52 ≤ b }
+    requires b_high { b < 2047 * 2 ^ 52 }
+    ensures first { RootBits (mag_of (a / 2 ^ 52) (a % 2 ^ 52)) result.first }
+    ensures second { RootBits (mag_of (b / 2 ^ 52) (b % 2 ^ 52)) result.second }
 {
     let p = evened(a % LEAD + LEAD, a / LEAD + 1023);
     let q = evened(b % LEAD + LEAD, b / LEAD + 1023);
@@ -45,8 +45,8 @@ fn sqrt_bits_pair(a: u64, b: u64) -> Patterns
 // The square roots of x and y, each as `sqrt` gives it. Where neither is zero, subnormal, negative or not finite, the
 // guesses are worked out together, in less time than one after the other.
 pub fn sqrt_pair(x: f64, y: f64) -> Roots
-    ensures fact_1 { result.first ≡ sqrt_of x }
-    ensures fact_2 { result.second ≡ sqrt_of y }
+    ensures first { result.first ≡ sqrt_of x }
+    ensures second { result.second ≡ sqrt_of y }
 {
     if (0.0 < x) & (x < 1.0 / 0.0) & (0.0 < y) & (y < 1.0 / 0.0) {
         let a = f64::to_bits(x);

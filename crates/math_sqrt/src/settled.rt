@@ -14,10 +14,10 @@ const PART: u64 = 4 * LEAD;
 // / 4, so that the root is above the middle where the number is above the square of r by more than r. The other middles
 // are tested likewise.
 fn chosen(r: u64, x: u64, y: u64) -> u64
-    requires fact_1 { 2 ^ 52 ≤ r }
-    requires fact_2 { r < 2 ^ 53 }
-    requires fact_3 { x < 2 ^ 60 }
-    requires fact_4 { y < 2 ^ 60 }
+    requires r_low { 2 ^ 52 ≤ r }
+    requires r_high { r < 2 ^ 53 }
+    requires x_high { x < 2 ^ 60 }
+    requires y_high { y < 2 ^ 60 }
     ensures { Chosen r x y result }
 {
     if x + 3 * r <= y + 2 {
@@ -37,9 +37,9 @@ fn chosen(r: u64, x: u64, y: u64) -> u64
 // fits a u64. Where r is so close, their upper parts are at most 2 apart, and what is compared is without what these
 // share.
 pub(crate) fn settled(m: u64, r: u64) -> u64
-    requires fact_1 { m < 2 ^ 54 }
-    requires fact_2 { 2 ^ 52 ≤ r }
-    requires fact_3 { r < 2 ^ 53 }
+    requires m_high { m < 2 ^ 54 }
+    requires r_low { 2 ^ 52 ≤ r }
+    requires r_high { r < 2 ^ 53 }
     ensures { 0 < result → HalfRoot m result }
 {
     let s = square(r);

@@ -18,8 +18,8 @@ pub(crate) struct Scaled {
 
 // A subnormal value of d units, with the leading digit in the place that it has in the others.
 fn normal(d: u64) -> Scaled
-    requires fact_1 { 0 < d }
-    requires fact_2 { d < 2 ^ 53 }
+    requires d_low { 0 < d }
+    requires d_high { d < 2 ^ 53 }
     ensures { Normal d result.m result.g }
 {
     let mut a = d;
@@ -34,10 +34,10 @@ fn normal(d: u64) -> Scaled
 // The same value with an even g, and one digit more in m where that was odd. Chosen without a branch, which a processor
 // would mispredict.
 pub(crate) fn evened(m: u64, g: u64) -> Scaled
-    requires fact_1 { 2 ^ 52 ≤ m }
-    requires fact_2 { m < 2 ^ 53 }
-    requires fact_3 { 972 ≤ g }
-    requires fact_4 { g ≤ 3069 }
+    requires m_low { 2 ^ 52 ≤ m }
+    requires m_high { m < 2 ^ 53 }
+    requires g_low { 972 ≤ g }
+    requires g_high { g ≤ 3069 }
     ensures { Evened m g result.m result.g }
 {
     let odd = g % 2;
@@ -48,9 +48,9 @@ pub(crate) fn evened(m: u64, g: u64) -> Scaled
 // The pattern of the root of the value that m and an even g stand for, from a guess at the root of m. The root has half
 // the exponent.
 pub(crate) fn pattern(m: u64, g: u64, guess: u64) -> u64
-    requires fact_1 { Even m g }
-    requires fact_2 { 2 ^ 52 ≤ guess }
-    requires fact_3 { guess < 2 ^ 53 }
+    requires even { Even m g }
+    requires guess_low { 2 ^ 52 ≤ guess }
+    requires guess_high { guess < 2 ^ 53 }
     ensures { Finished m g result }
 {
     let r = rounded(m, guess);
@@ -59,10 +59,10 @@ pub(crate) fn pattern(m: u64, g: u64, guess: u64) -> u64
 
 // The same where g may be odd, and m has one digit less.
 fn finish(m: u64, g: u64) -> u64
-    requires fact_1 { 2 ^ 52 ≤ m }
-    requires fact_2 { m < 2 ^ 53 }
-    requires fact_3 { 972 ≤ g }
-    requires fact_4 { g ≤ 3069 }
+    requires m_low { 2 ^ 52 ≤ m }
+    requires m_high { m < 2 ^ 53 }
+    requires g_low { 972 ≤ g }
+    requires g_high { g ≤ 3069 }
     ensures { Finished m g result }
 {
     let e = evened(m, g);
@@ -71,8 +71,8 @@ fn finish(m: u64, g: u64) -> u64
 
 // The pattern of the root of the finite value above 0 whose pattern is b.
 fn sqrt_bits(b: u64) -> u64
-    requires fact_1 { 0 < b }
-    requires fact_2 { b < 2047 * 2 ^ 52 }
+    requires b_low { 0 < b }
+    requires b_high { b < 2047 * 2 ^ 52 }
     ensures { RootBits (mag_of (b / 2 ^ 52) (b % 2 ^ 52)) result }
 {
     let field = b / LEAD;

@@ -1,4 +1,6 @@
 // Sine and cosine of an f64 of a size up to 2^25, NaN beyond.
+#![tactic(auto)]
+
 pub mod cos;
 mod reduce;
 mod series;

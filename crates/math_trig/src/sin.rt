@@ -30,8 +30,8 @@ pub fn sin(x: f64) -> f64
 // Whether the sine of y is seen to be that of x with the other sign: both leave the same of a quarter turn, but for its
 // sign, and lie as many quarter turns to either side. It needs neither series, and where it says no, nothing is known.
 pub fn is_opposite(x: f64, y: f64) -> bool
-    ensures fact_1 { result ≡ opposite_of x y }
-    ensures fact_2 { (result ≡ true → sin_of y ≡ neg (sin_of x)) }
+    ensures answer { result ≡ opposite_of x y }
+    ensures if_true { result ≡ true → sin_of y ≡ neg (sin_of x) }
 {
     let most = 33554432.0;
     if (math_round::fabs::fabs(x) <= most) & (math_round::fabs::fabs(y) <= most) {

@@ -1,5 +1,7 @@
 // Whether five numbers sum to 1, within 2^-40 and exactly: no sum of f64s tells it. No public function has a
 // `requires`.
+#![tactic(auto)]
+
 ghost use Rattle.std.specs.Prelude.{◌≡◌, ◌+◌, ◌-◌, ◌*◌, ◌≤◌, min, true, ◌&&◌};
 ghost use Rattle.std.specs.Float.{binary64};
 ghost use Rattle.laws.specs.SumError.{sum_of};
@@ -44,9 +46,9 @@ struct Sides {
 // One digit of a size of 1 at most: x times 2^50, its whole part, and what is left, each exact.
 fn cut(x: f64) -> Piece
     requires { Size binary64 x }
-    ensures fact_1 { result.digit ≡ digit_of x }
-    ensures fact_2 { result.rest ≡ rest_of x }
-    ensures fact_3 { result.digit ≤ 1125899906842624 }
+    ensures digit { result.digit ≡ digit_of x }
+    ensures rest { result.rest ≡ rest_of x }
+    ensures digit_high { result.digit ≤ 1125899906842624 }
 {
     let y = x * 1125899906842624.0;
     let d = std::num::truncating_f64_to_u64(y);
@@ -59,9 +61,9 @@ fn cut(x: f64) -> Piece
 // One digit of each of five sizes.
 fn cut_five(v: Five) -> Pieces
     requires { All (Size binary64) (five v.a v.b v.c v.d v.e) }
-    ensures fact_1 { result.sum ≡ sum_of digit_of (five v.a v.b v.c v.d v.e) }
-    ensures fact_2 { five result.rest.a result.rest.b result.rest.c result.rest.d result.rest.e ≡ each_of rest_of (five v.a v.b v.c v.d v.e) }
-    ensures fact_3 { result.sum ≤ 5629499534213120 }
+    ensures sum { result.sum ≡ sum_of digit_of (five v.a v.b v.c v.d v.e) }
+    ensures rest { five result.rest.a result.rest.b result.rest.c result.rest.d result.rest.e ≡ each_of rest_of (five v.a v.b v.c v.d v.e) }
+    ensures sum_high { result.sum ≤ 5629499534213120 }
 {
     let a = cut(v.a);
     let b = cut(v.b);
@@ -95,12 +97,12 @@ fn ahead(a: u64, b: u64) -> u64
 
 // A digit more of each number. Of what was counted only the difference matters, and 6 is as good as more.
 fn turn(s: Sides) -> Sides
-    requires fact_1 { All (Size binary64) (five s.p.a s.p.b s.p.c s.p.d s.p.e) }
-    requires fact_2 { All (Size binary64) (five s.n.a s.n.b s.n.c s.n.d s.n.e) }
-    ensures fact_1 { five result.p.a result.p.b result.p.c result.p.d result.p.e ≡ each_of rest_of (five s.p.a s.p.b s.p.c s.p.d s.p.e) }
-    ensures fact_2 { five result.n.a result.n.b result.n.c result.n.d result.n.e ≡ each_of rest_of (five s.n.a s.n.b s.n.c s.n.d s.n.e) }
-    ensures fact_3 { result.a ≡ min (s.a - s.b) 6 * 1125899906842624 + sum_of digit_of (five s.p.a s.p.b s.p.c s.p.d s.p.e) }
-    ensures fact_4 { result.b ≡ min (s.b - s.a) 6 * 1125899906842624 + sum_of digit_of (five s.n.a s.n.b s.n.c s.n.d s.n.e) }
+    requires of_p { All (Size binary64) (five s.p.a s.p.b s.p.c s.p.d s.p.e) }
+    requires of_n { All (Size binary64) (five s.n.a s.n.b s.n.c s.n.d s.n.e) }
+    ensures of_p { five result.p.a result.p.b result.p.c result.p.d result.p.e ≡ each_of rest_of (five s.p.a s.p.b s.p.c s.p.d s.p.e) }
+    ensures of_n { five result.n.a result.n.b result.n.c result.n.d result.n.e ≡ each_of rest_of (five s.n.a s.n.b s.n.c s.n.d s.n.e) }
+    ensures a { result.a ≡ min (s.a - s.b) 6 * 1125899906842624 + sum_of digit_of (five s.p.a s.p.b s.p.c s.p.d s.p.e) }
+    ensures b { result.b ≡ min (s.b - s.a) 6 * 1125899906842624 + sum_of digit_of (five s.n.a s.n.b s.n.c s.n.d s.n.e) }
 {
     let p = s.p;
     let n = s.n;
@@ -121,8 +123,8 @@ fn turn(s: Sides) -> Sides
 // Whether the one side is no more than the other, exactly. It is decided where what was counted differs by 6, since
 // five rests are below 5; and after 21 turns nothing is left of any number.
 fn no_more(s: Sides) -> bool
-    requires fact_1 { All (Rest binary64) (five s.p.a s.p.b s.p.c s.p.d s.p.e) }
-    requires fact_2 { All (Rest binary64) (five s.n.a s.n.b s.n.c s.n.d s.n.e) }
+    requires of_p { All (Rest binary64) (five s.p.a s.p.b s.p.c s.p.d s.p.e) }
+    requires of_n { All (Rest binary64) (five s.n.a s.n.b s.n.c s.n.d s.n.e) }
     ensures { result ≡ run 21 (five s.p.a s.p.b s.p.c s.p.d s.p.e) (five s.n.a s.n.b s.n.c s.n.d s.n.e) s.a s.b }
 {
     let mut t = s;
@@ -142,8 +144,8 @@ fn no_more(s: Sides) -> bool
 
 // Whether p less n is within 2^-40 of 1. After the first digits 1 is 2^50 and 2^-40 is 1024; then two comparisons.
 fn near_one(p: Five, n: Five) -> bool
-    requires fact_1 { All (Size binary64) (five p.a p.b p.c p.d p.e) }
-    requires fact_2 { All (Size binary64) (five n.a n.b n.c n.d n.e) }
+    requires of_p { All (Size binary64) (five p.a p.b p.c p.d p.e) }
+    requires of_n { All (Size binary64) (five n.a n.b n.c n.d n.e) }
     ensures { result ≡ near_run (five p.a p.b p.c p.d p.e) (five n.a n.b n.c n.d n.e) }
 {
     let x = cut_five(p);
@@ -212,8 +214,8 @@ pub fn is_within(x: f64) -> bool
 
 // Whether five numbers are.
 fn all_within(a: f64, b: f64, c: f64, d: f64, e: f64) -> bool
-    ensures fact_1 { result ≡ all_within (five a b c d e) }
-    ensures fact_2 { (result ≡ true → All Held (five a b c d e)) }
+    ensures answer { result ≡ all_within (five a b c d e) }
+    ensures if_true { result ≡ true → All Held (five a b c d e) }
 {
     is_within(a) & is_within(b) & is_within(c) & is_within(d) & is_within(e)
 }

@@ -34,9 +34,9 @@ pub fn judge_ticket(ticket: Numbers) -> Report
 }
 
 pub fn design_ticket(ticket: Numbers, out: &mut [u8]) -> Report
-    ensures fact_1 { FilledOrKept float_bytes (bytes_for (formed_of ticket) (length out.old)) out.old result out.new }
-    ensures fact_2 { TicketTotals ticket.kind result out.new }
-    ensures fact_3 { TicketMirrors ticket.kind result out.new }
+    ensures filled_or_kept { FilledOrKept float_bytes (bytes_for (formed_of ticket) (length out.old)) out.old result out.new }
+    ensures ticket_totals { TicketTotals ticket.kind result out.new }
+    ensures ticket_mirrors { TicketMirrors ticket.kind result out.new }
 {
     c_card::tickets::pel_design_ticket(ticket, &mut *out)
 }

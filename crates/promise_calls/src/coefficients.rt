@@ -15,8 +15,8 @@ pub fn biquad_coefs(response: u64, centre: f64, q: f64, rate: f64, out: &mut [u8
 }
 
 pub fn butterworth_sos(response: u64, order: u64, cutoff: f64, rate: f64, out: &mut [u8]) -> Report
-    ensures fact_1 { FilledOrKept float_bytes (butterworth_bytes (response_of response) order cutoff rate (length out.old)) out.old result out.new }
-    ensures fact_2 { KeepsEven (response_of response) order cutoff rate out.old result out.new }
+    ensures filled_or_kept { FilledOrKept float_bytes (butterworth_bytes (response_of response) order cutoff rate (length out.old)) out.old result out.new }
+    ensures keeps_even { KeepsEven (response_of response) order cutoff rate out.old result out.new }
 {
     c_sections::cascade::pel_butterworth_sos(response, order, cutoff, rate, &mut *out)
 }

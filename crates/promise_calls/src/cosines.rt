@@ -19,16 +19,16 @@ use verdict::Report;
 use win_shapes::cosines::Cosines;
 
 pub fn load_cosines(src: &[u8]) -> Loaded
-    ensures fact_1 { LoadedOrNone src.now result }
-    ensures fact_2 { TakesBuiltIns src.now result }
+    ensures loaded_or_none { LoadedOrNone src.now result }
+    ensures takes_built_ins { TakesBuiltIns src.now result }
 {
     c_cosines::load::pel_load_cosines(src)
 }
 
 pub fn lowpass_cosines(cutoff: f64, rate: f64, window: Cosines, out: &mut [u8]) -> Report
-    ensures fact_1 { FilledOrKept float_bytes (lowpass_bytes cutoff rate (Known (Window.Cosines window)) (length out.old)) out.old result out.new }
-    ensures fact_2 { Totals result out.new }
-    ensures fact_3 { WritesBuiltIns cutoff rate window out.old result out.new }
+    ensures filled_or_kept { FilledOrKept float_bytes (lowpass_bytes cutoff rate (Known (Window.Cosines window)) (length out.old)) out.old result out.new }
+    ensures totals { Totals result out.new }
+    ensures writes_built_ins { WritesBuiltIns cutoff rate window out.old result out.new }
 {
     c_lowpass::cosines::pel_lowpass_cosines(cutoff, rate, window, &mut *out)
 }

@@ -15,9 +15,9 @@ ghost use Rattle.promise_totals.specs.Mirror.{Mirrored, Vanishes};
 use verdict::Report;
 
 pub fn lowpass(cutoff: f64, rate: f64, window: u64, beta: f64, out: &mut [u8]) -> Report
-    ensures fact_1 { FilledOrKept float_bytes (lowpass_bytes cutoff rate (window_of window beta) (length out.old)) out.old result out.new }
-    ensures fact_2 { Totals result out.new }
-    ensures fact_3 { TakenTo713 beta result }
+    ensures filled_or_kept { FilledOrKept float_bytes (lowpass_bytes cutoff rate (window_of window beta) (length out.old)) out.old result out.new }
+    ensures totals { Totals result out.new }
+    ensures taken_to713 { TakenTo713 beta result }
 {
     c_lowpass::lowpass::pel_lowpass(cutoff, rate, window, beta, &mut *out)
 }
@@ -30,8 +30,8 @@ pub fn spec_design(
     cap: u64,
     out: &mut [u8],
 ) -> Report
-    ensures fact_1 { FilledOrKept float_bytes (spec_bytes (spec_of cutoff transition attenuation) rate cap (length out.old)) out.old result out.new }
-    ensures fact_2 { Totals result out.new }
+    ensures filled_or_kept { FilledOrKept float_bytes (spec_bytes (spec_of cutoff transition attenuation) rate cap (length out.old)) out.old result out.new }
+    ensures totals { Totals result out.new }
 {
     c_lowpass::spec::pel_spec_design(cutoff, transition, attenuation, rate, cap, &mut *out)
 }
@@ -44,8 +44,8 @@ pub fn channelizer_prototype(
     attenuation: f64,
     out: &mut [u8],
 ) -> Report
-    ensures fact_1 { FilledOrKept float_bytes (channelizer_bytes channels branch passband stopband attenuation (length out.old)) out.old result out.new }
-    ensures fact_2 { Totals result out.new }
+    ensures filled_or_kept { FilledOrKept float_bytes (channelizer_bytes channels branch passband stopband attenuation (length out.old)) out.old result out.new }
+    ensures totals { Totals result out.new }
 {
     c_lowpass::prototype::pel_channelizer_prototype(
         channels,
@@ -59,18 +59,18 @@ pub fn channelizer_prototype(
 
 // Its taps mirror to the bit besides, and are zero where half-bands are zero.
 pub fn halfband(beta: f64, out: &mut [u8]) -> Report
-    ensures fact_1 { FilledOrKept float_bytes (halfband_bytes beta (length out.old)) out.old result out.new }
-    ensures fact_2 { Totals result out.new }
-    ensures fact_3 { Mirrored result out.new }
-    ensures fact_4 { Vanishes result out.new }
-    ensures fact_5 { TakenTo713 beta result }
+    ensures filled_or_kept { FilledOrKept float_bytes (halfband_bytes beta (length out.old)) out.old result out.new }
+    ensures totals { Totals result out.new }
+    ensures mirrored { Mirrored result out.new }
+    ensures vanishes { Vanishes result out.new }
+    ensures taken_to713 { TakenTo713 beta result }
 {
     c_pulses::halfbands::pel_halfband(beta, &mut *out)
 }
 
 pub fn gaussian(bt: f64, samples: u64, span: u64, out: &mut [u8]) -> Report
-    ensures fact_1 { FilledOrKept float_bytes (gaussian_bytes bt samples span (length out.old)) out.old result out.new }
-    ensures fact_2 { Totals result out.new }
+    ensures filled_or_kept { FilledOrKept float_bytes (gaussian_bytes bt samples span (length out.old)) out.old result out.new }
+    ensures totals { Totals result out.new }
 {
     c_pulses::pulse::pel_gaussian(bt, samples, span, &mut *out)
 }

@@ -29,8 +29,8 @@ pub fn halfband_len(transition: f64, attenuation: f64, rate: f64) -> Report
 }
 
 pub fn delay(taps: u64) -> Report
-    ensures fact_1 { Numbered (of_delay (delay_of taps)) result.number }
-    ensures fact_2 { KeepsHalf taps result }
+    ensures numbered { Numbered (of_delay (delay_of taps)) result.number }
+    ensures keeps_half { KeepsHalf taps result }
 {
     c_math::lengths::pel_delay(taps)
 }
@@ -78,8 +78,8 @@ pub fn q14_from_f64(x: f64) -> Report
 
 // The series has its number of terms and its sum for every argument, also where it hasn't settled.
 pub fn bessel_i0(x: f64) -> Report
-    ensures fact_1 { Numbered (of_series (series_of x)) result.number }
-    ensures fact_2 { KeepsSum x result }
+    ensures numbered { Numbered (of_series (series_of x)) result.number }
+    ensures keeps_sum { KeepsSum x result }
 {
     c_math::shape::pel_bessel_i0(x)
 }

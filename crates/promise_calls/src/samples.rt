@@ -37,17 +37,17 @@ pub fn blackman_harris_q15(symmetry: u64, out: &mut [u8]) -> Report
 }
 
 pub fn kaiser_f32(beta: f64, symmetry: u64, out: &mut [u8]) -> Report
-    ensures fact_1 { FilledOrKept (sample_bytes Single) (window_bytes Single (Kaiser beta) (symmetry_of symmetry) (length out.old)) out.old result out.new }
-    ensures fact_2 { FiniteSamples beta (symmetry_of symmetry) (length out.old / 4) result }
-    ensures fact_3 { TakenTo713 beta result }
+    ensures filled_or_kept { FilledOrKept (sample_bytes Single) (window_bytes Single (Kaiser beta) (symmetry_of symmetry) (length out.old)) out.old result out.new }
+    ensures finite_samples { FiniteSamples beta (symmetry_of symmetry) (length out.old / 4) result }
+    ensures taken_to713 { TakenTo713 beta result }
 {
     c_windows::samples::pel_kaiser_f32(beta, symmetry, &mut *out)
 }
 
 pub fn kaiser_q15(beta: f64, symmetry: u64, out: &mut [u8]) -> Report
-    ensures fact_1 { FilledOrKept (sample_bytes Q15) (window_bytes Q15 (Kaiser beta) (symmetry_of symmetry) (length out.old)) out.old result out.new }
-    ensures fact_2 { FiniteSamples beta (symmetry_of symmetry) (length out.old / 2) result }
-    ensures fact_3 { TakenTo713 beta result }
+    ensures filled_or_kept { FilledOrKept (sample_bytes Q15) (window_bytes Q15 (Kaiser beta) (symmetry_of symmetry) (length out.old)) out.old result out.new }
+    ensures finite_samples { FiniteSamples beta (symmetry_of symmetry) (length out.old / 2) result }
+    ensures taken_to713 { TakenTo713 beta result }
 {
     c_windows::samples::pel_kaiser_q15(beta, symmetry, &mut *out)
 }

@@ -45,8 +45,8 @@ pub fn channelizer_slice(
 
 // Its taps mirror to the bit besides, and are zero where half-bands are zero.
 pub fn halfband_slice(beta: f64, taps: &mut [f64]) -> Verdict
-    ensures fact_1 { SliceTotals (Halfband.outcome_of (Halfband.halfband_of beta (length taps.old))) result taps.new }
-    ensures fact_2 { SliceMirrors result taps.new }
+    ensures slice_totals { SliceTotals (Halfband.outcome_of (Halfband.halfband_of beta (length taps.old))) result taps.new }
+    ensures slice_mirrors { SliceMirrors result taps.new }
 {
     ticket_slices::half_band::halfband_taps(beta, &mut *taps)
 }

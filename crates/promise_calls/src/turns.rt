@@ -16,27 +16,27 @@ use c_retune::write::Tuned;
 
 // Its report and its bytes are those of pel_lowpass.
 pub fn design_lowpass(cutoff: f64, rate: f64, window: u64, beta: f64, out: &mut [u8]) -> Tuned
-    ensures fact_1 { FilledOrKept float_bytes (lowpass_bytes cutoff rate (window_of window beta) (length out.old)) out.old result.report out.new }
-    ensures fact_2 { Totals result.report out.new }
-    ensures fact_3 { Begins cutoff rate window beta (length out.old / 8) result out.new }
+    ensures filled_or_kept { FilledOrKept float_bytes (lowpass_bytes cutoff rate (window_of window beta) (length out.old)) out.old result.report out.new }
+    ensures totals { Totals result.report out.new }
+    ensures begins { Begins cutoff rate window beta (length out.old / 8) result out.new }
 {
     c_retune::retune::pel_design_lowpass(cutoff, rate, window, beta, &mut *out)
 }
 
 pub fn new_cutoff(design: Design, cutoff: f64, rate: f64, out: &mut [u8]) -> Tuned
-    ensures fact_1 { FilledOrKept float_bytes (outcome_of (cutoff_for design cutoff rate (length out.old))) out.old result.report out.new }
-    ensures fact_2 { Totals result.report out.new }
-    ensures fact_3 { LeavesRecord design result }
-    ensures fact_4 { Promised (call_of (NewCutoff cutoff rate) design out.old result out.new) }
+    ensures filled_or_kept { FilledOrKept float_bytes (outcome_of (cutoff_for design cutoff rate (length out.old))) out.old result.report out.new }
+    ensures totals { Totals result.report out.new }
+    ensures leaves_record { LeavesRecord design result }
+    ensures promised { Promised (call_of (NewCutoff cutoff rate) design out.old result out.new) }
 {
     c_retune::retune::pel_design_new_cutoff(design, cutoff, rate, &mut *out)
 }
 
 pub fn new_beta(design: Design, beta: f64, out: &mut [u8]) -> Tuned
-    ensures fact_1 { FilledOrKept float_bytes (outcome_of (beta_for design beta (length out.old))) out.old result.report out.new }
-    ensures fact_2 { Totals result.report out.new }
-    ensures fact_3 { LeavesRecord design result }
-    ensures fact_4 { Promised (call_of (NewBeta beta) design out.old result out.new) }
+    ensures filled_or_kept { FilledOrKept float_bytes (outcome_of (beta_for design beta (length out.old))) out.old result.report out.new }
+    ensures totals { Totals result.report out.new }
+    ensures leaves_record { LeavesRecord design result }
+    ensures promised { Promised (call_of (NewBeta beta) design out.old result out.new) }
 {
     c_retune::retune::pel_design_new_beta(design, beta, &mut *out)
 }

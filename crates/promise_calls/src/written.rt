@@ -29,8 +29,8 @@ pub fn read_as_written(
     fifth: u64,
     out: &mut [u8],
 ) -> BothWays
-    ensures fact_1 { ReadAs (numbers kind first second third fourth fifth) result.written result.found }
-    ensures fact_2 { ReadsBack (numbers kind first second third fourth fifth) result.written out.new }
+    ensures read_as { ReadAs (numbers kind first second third fourth fifth) result.written result.found }
+    ensures reads_back { ReadsBack (numbers kind first second third fourth fifth) result.written out.new }
 {
     let written = c_card::writing::pel_write_ticket(
         Numbers {

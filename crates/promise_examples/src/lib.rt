@@ -1,1 +1,3 @@
 // The worked examples that are proved; no code.
+#![tactic(auto)]
+

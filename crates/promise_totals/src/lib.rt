@@ -1,1 +1,3 @@
 // What the rounding of taps can cost, for every accepted ticket; no code.
+#![tactic(auto)]
+

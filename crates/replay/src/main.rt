@@ -1,5 +1,6 @@
 // Replays the stored list of the Rust's answers: what the port answers to the same questions is compared with them by
 // bits.
+#![tactic(auto)]
 
 mod converted;
 mod designs;

@@ -1,4 +1,6 @@
 // A stored list of the Rust's answers: its lines taken apart, and what the port says held against them.
+#![tactic(auto)]
+
 pub mod converted;
 pub mod lent;
 pub mod line;

@@ -1,4 +1,6 @@
 // Tickets on a card: a record read as a ticket, what stays unread behind it, and a whole card checked.
+#![tactic(auto)]
+
 use ticket_kinds::Ticket;
 use verdict::Refusal;
 

@@ -1,4 +1,6 @@
 // What the numbers of a ticket stand for: the windows by their codes, since an enum is no argument of a C function.
+#![tactic(auto)]
+
 ghost use Rattle.std.specs.Prelude.{◌≡◌};
 ghost use Rattle.ticket_codes.specs.Codes.{window_of, code_of, shape_of};
 

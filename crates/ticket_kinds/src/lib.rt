@@ -1,5 +1,7 @@
 // Tickets of six kinds, as a card, the registry of a visit and C have them: floats as their bits, so that a NaN's
 // payload is kept, and counts as they are. What comes of one is told by `ticket_design`.
+#![tactic(auto)]
+
 use win_shapes::cosines::Cosines;
 
 pub mod numbers;

@@ -1,4 +1,6 @@
 // A ticket written as a record of a card, into a buffer that is as long as the record.
+#![tactic(auto)]
+
 ghost use Rattle.std.specs.Prelude.{◌≡◌, ◌≤◌, length, take};
 ghost use Rattle.ticket_card.specs.Card.{record_length};
 ghost use Rattle.ticket_record.specs.Record.{record_bytes, field_list, WritesRecord};

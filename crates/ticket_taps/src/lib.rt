@@ -1,5 +1,7 @@
 // A design of any kind: its taps one by one, and as the bytes of a buffer. One loop serves every kind, and a quicker
 // one the raw taps of a low-pass that were kept.
+#![tactic(auto)]
+
 ghost use Rattle.std.specs.Prelude.{◌≡◌, ◌*◌, ◌/◌, ◌≤◌, length};
 ghost use Rattle.laws.specs.Chunks.{chunked};
 ghost use Rattle.wire.specs.Bytes.{float_bytes};
@@ -44,8 +46,8 @@ fn smaller(a: usize, b: usize) -> usize
 // Puts the first taps of a low-pass in their places, as many as raw taps are kept, and tells how many. A loop of its
 // own, since a division is all that each needs.
 fn put_cached(lp: Lowpass, raws: &[f64], out: &mut [u8]) -> usize
-    ensures fact_1 { 8 * result ≤ length out.old }
-    ensures fact_2 { (Caches lp raws.now → out.new ≡ chunked 8 result (λ k. float_bytes (tap_of lp k)) out.old) }
+    ensures within { 8 * result ≤ length out.old }
+    ensures taps { Caches lp raws.now → out.new ≡ chunked 8 result (λ k. float_bytes (tap_of lp k)) out.old }
 {
     if lp.n > TAP_LIMIT {
         return 0;
@@ -59,8 +61,8 @@ fn put_cached(lp: Lowpass, raws: &[f64], out: &mut [u8]) -> usize
 
 // The first taps of a design of any kind, where that is quicker than one by one; none of them else.
 fn put_first(source: Source, raws: &[f64], out: &mut [u8]) -> usize
-    ensures fact_1 { 8 * result ≤ length out.old }
-    ensures fact_2 { (CachedFor source raws.now → out.new ≡ chunked 8 result (λ k. float_bytes (tap_at source k)) out.old) }
+    ensures within { 8 * result ≤ length out.old }
+    ensures taps { CachedFor source raws.now → out.new ≡ chunked 8 result (λ k. float_bytes (tap_at source k)) out.old }
 {
     match source {
         Source::Lowpass(lp) => put_cached(lp, raws, &mut *out),

@@ -1,5 +1,7 @@
 // What comes of a ticket: done or refused, why it is refused by number, and what the caller hears of it. Every crate
 // that judges something rests on these words. No function here has a `requires`.
+#![tactic(auto)]
+
 ghost use Rattle.std.specs.Prelude.{◌≡◌};
 ghost use Rattle.verdict.specs.Report.{told, report_of, accepted_of};
 ghost use Rattle.verdict.specs.Reports.{length_report, judged_report};

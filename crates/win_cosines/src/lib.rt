@@ -1,5 +1,7 @@
 // A lock maker's own window: one to five numbers of a sum of cosines, checked once, when they are loaded. No public
 // function has a `requires`.
+#![tactic(auto)]
+
 ghost use Rattle.std.specs.Prelude.{◌≡◌, List, length, slice_index_or, Float};
 ghost use Rattle.std.specs.Float.Ieee.{neg};
 ghost use Rattle.laws.specs.Binary64.{whole};

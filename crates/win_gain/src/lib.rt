@@ -1,4 +1,6 @@
 // What a window does to a level and to noise.
+#![tactic(auto)]
+
 ghost use Rattle.std.specs.Prelude.{◌≡◌};
 ghost use Rattle.win_gain.specs.Gain.{summed, gain_of};
 

@@ -100,8 +100,8 @@ pub fn place_at(shape: Shape, divisor: u64, i: u64) -> f64
 
 // The second, of two samples: what the cosines or the series are taken at.
 pub fn arguments_of(shape: Shape, place: f64, other: f64) -> Pair
-    ensures fact_1 { result.first ≡ argument_of (curve_of shape) place }
-    ensures fact_2 { result.second ≡ argument_of (curve_of shape) other }
+    ensures first { result.first ≡ argument_of (curve_of shape) place }
+    ensures second { result.second ≡ argument_of (curve_of shape) other }
 {
     curve::arguments_of(curve_of(shape), place, other)
 }
@@ -119,8 +119,8 @@ fn value_of(shape: Shape, i0: f64, x: f64) -> f64
 
 // Two such samples, where Kaiser's series are summed together.
 fn values_of(shape: Shape, i0: f64, x: f64, y: f64) -> Pair
-    ensures fact_1 { result.first ≡ value_of shape i0 x }
-    ensures fact_2 { result.second ≡ value_of shape i0 y }
+    ensures first { result.first ≡ value_of shape i0 x }
+    ensures second { result.second ≡ value_of shape i0 y }
 {
     match shape {
         Shape::Kaiser(_) => kaiser::values(i0, x, y),
@@ -144,8 +144,8 @@ pub fn value_at(shape: Shape, i0: f64, divisor: u64, x: f64) -> f64
 
 // Two samples for a divisor, 1 both where that is 0.
 pub fn values_at(shape: Shape, i0: f64, divisor: u64, x: f64, y: f64) -> Pair
-    ensures fact_1 { result.first ≡ value_at shape i0 divisor x }
-    ensures fact_2 { result.second ≡ value_at shape i0 divisor y }
+    ensures first { result.first ≡ value_at shape i0 divisor x }
+    ensures second { result.second ≡ value_at shape i0 divisor y }
 {
     if divisor == 0 {
         Pair {

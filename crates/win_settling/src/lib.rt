@@ -1,5 +1,7 @@
 // Whether the Bessel series that a Kaiser window takes have settled: asked before the first element is written, since a
 // window can't be divided by a sum that overflowed. No public function has a `requires`.
+#![tactic(auto)]
+
 ghost use Rattle.std.specs.Prelude.{◌≡◌};
 ghost use Rattle.laws.specs.Every.{every};
 ghost use Rattle.win_settling.specs.Settling.{element_settles, kaiser_settles};

@@ -49,8 +49,8 @@ pub fn argument_of(curve: Curve, place: f64) -> f64
 
 // The same of two elements, where Kaiser's roots are worked out together.
 pub fn arguments_of(curve: Curve, place: f64, other: f64) -> Pair
-    ensures fact_1 { result.first ≡ argument_of curve place }
-    ensures fact_2 { result.second ≡ argument_of curve other }
+    ensures first { result.first ≡ argument_of curve place }
+    ensures second { result.second ≡ argument_of curve other }
 {
     match curve {
         Curve::Cosines => Pair {

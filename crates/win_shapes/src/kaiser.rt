@@ -23,8 +23,8 @@ pub fn argument(beta: f64, radicand: f64) -> f64
 
 // The same for two of them, whose roots are worked out together.
 pub fn arguments(beta: f64, radicand: f64, other: f64) -> Pair
-    ensures fact_1 { result.first ≡ kaiser_argument beta radicand }
-    ensures fact_2 { result.second ≡ kaiser_argument beta other }
+    ensures first { result.first ≡ kaiser_argument beta radicand }
+    ensures second { result.second ≡ kaiser_argument beta other }
 {
     let roots = math_sqrt::pair::sqrt_pair(radicand, other);
     Pair {
@@ -43,8 +43,8 @@ pub fn value(i0: f64, x: f64) -> f64
 
 // The same for two of them, whose series are summed together.
 pub fn values(i0: f64, x: f64, y: f64) -> Pair
-    ensures fact_1 { result.first ≡ kaiser_value i0 x }
-    ensures fact_2 { result.second ≡ kaiser_value i0 y }
+    ensures first { result.first ≡ kaiser_value i0 x }
+    ensures second { result.second ≡ kaiser_value i0 y }
 {
     let s = math_bessel::bessel_i0_pair(x, y);
     Pair {

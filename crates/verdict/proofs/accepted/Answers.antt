@@ -2,12 +2,8 @@
 use Rattle.std.proofs.Common.{refl}
 use Rattle.verdict.specs.Report.{accepted_of}
 use lib.Ieee.{of_int, of_bits}
-use Rattle.verdict.proofs.accepted.Statement.{statement}
-use Rattle.verdict.proofs.accepted.Tie as tie
+use Rattle.verdict.proofs.accepted.Goals as goal
 
-returns : tie.Need-returns
+pub returns : goal.returns
 unfolding accepted_of of_int of_bits
 returns c = refl
-
-pub accepted-spec : {M : Type 1} → statement M
-accepted-spec = tie.close (tie.spec returns)
