@@ -12,7 +12,7 @@ use verdict::{Report, Verdict};
 
 // What pel_read_ticket answers: the ticket, and the report.
 #[repr(C)]
-#[derive(Drop)]
+#[derive(Clone, Copy)]
 pub struct TicketRead {
     pub ticket: Numbers,
     pub report: Report,
@@ -55,7 +55,7 @@ pub extern "C" fn pel_read_ticket(src: &[u8]) -> TicketRead
 
 // What pel_check_card answers: how many tickets were read, at which byte reading ended, and the report.
 #[repr(C)]
-#[derive(Drop)]
+#[derive(Clone, Copy)]
 pub struct CardChecked {
     pub tickets: u64,
     pub place: u64,

@@ -11,7 +11,7 @@ use win_shapes::cosines::Cosines;
 
 // What pel_load_cosines answers: the window to design with, and the report.
 #[repr(C)]
-#[derive(Drop)]
+#[derive(Clone, Copy)]
 pub struct Loaded {
     pub window: Cosines,
     pub report: Report,

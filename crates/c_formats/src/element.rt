@@ -6,7 +6,7 @@ use fmt_q15::q15::Coded;
 use verdict::Refusal;
 
 // What an f64 is converted to: Q15 or Q14 in two bytes, f32 in four.
-#[derive(Drop)]
+#[derive(Clone, Copy)]
 pub enum Format {
     Q15,
     Q14,
@@ -14,7 +14,7 @@ pub enum Format {
 }
 
 // An element's pattern, or why it has none.
-#[derive(Drop)]
+#[derive(Clone, Copy)]
 pub enum Encoded {
     Pattern(u64),
     Refused(Refusal),

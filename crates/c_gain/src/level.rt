@@ -10,7 +10,7 @@ use win_gain::{Gain, gain_of};
 
 // What pel_window_gain answers; a field that does not apply is 0.
 #[repr(C)]
-#[derive(Drop)]
+#[derive(Clone, Copy)]
 pub struct GainReport {
     // 0, or 8 where the length isn't whole samples.
     pub number: u32,

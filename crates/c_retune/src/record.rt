@@ -9,7 +9,7 @@ use verdict::{BAD_CODE, Refusal};
 // How many taps, the cutoff as a fraction of the rate, the window by its code, its beta (0 where it has none), the
 // value that the window is divided by (the series at beta, or 1), and the sum that the taps are divided by.
 #[repr(C)]
-#[derive(Drop)]
+#[derive(Clone, Copy)]
 pub struct Design {
     pub taps: u64,
     pub fraction: f64,

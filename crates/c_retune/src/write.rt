@@ -11,7 +11,7 @@ use verdict::{Refusal, Report};
 
 // What an export answers: the record to keep from now on, and the report.
 #[repr(C)]
-#[derive(Drop)]
+#[derive(Clone, Copy)]
 pub struct Tuned {
     pub design: Design,
     pub report: Report,

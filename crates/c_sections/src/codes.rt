@@ -5,7 +5,7 @@ ghost use Rattle.c_sections.specs.Codes.{response_of};
 use iir_biquad::biquad::Response;
 
 // A response, or a code that none has.
-#[derive(Drop)]
+#[derive(Clone, Copy)]
 pub enum Coded {
     Known(Response),
     Unknown,

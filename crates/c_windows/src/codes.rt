@@ -5,7 +5,7 @@ ghost use Rattle.c_windows.specs.Codes.{symmetry_of};
 use win_sampled::shape::Symmetry;
 
 // A symmetry, or a code that none has.
-#[derive(Drop)]
+#[derive(Clone, Copy)]
 pub enum Coded {
     Known(Symmetry),
     Unknown,

@@ -4,7 +4,7 @@ ghost use Rattle.wire.specs.Bytes.{put_of};
 ghost use Rattle.c_windows.specs.Samples.{width_of, pattern_of};
 
 // What a sample is: an f32 in four bytes, or a Q15 number in two.
-#[derive(Drop)]
+#[derive(Clone, Copy)]
 pub enum Sample {
     Single,
     Q15,

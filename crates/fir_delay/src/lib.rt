@@ -7,7 +7,7 @@ ghost use Rattle.fir_delay.specs.Delay.{delay_of};
 use verdict::{BAD_COUNT, Refusal};
 
 // A number of half samples, or why not.
-#[derive(Drop)]
+#[derive(Clone, Copy)]
 pub enum Delayed {
     HalfSamples(u64),
     Refused(Refusal),

@@ -11,7 +11,7 @@ const LN_2: f64 = 0.6931471805599453;
 
 // A design: the exponent 2 π² bt² / ln 2, the samples of a symbol, the middle, how many taps, and the sum that they are
 // divided by.
-#[derive(Drop)]
+#[derive(Clone, Copy)]
 pub struct Gaussian {
     pub a: f64,
     pub sps: f64,
@@ -21,7 +21,7 @@ pub struct Gaussian {
 }
 
 // A design, or why not.
-#[derive(Drop)]
+#[derive(Clone, Copy)]
 pub enum GaussianDesigned {
     Ready(Gaussian),
     Refused(Refusal),

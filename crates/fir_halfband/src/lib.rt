@@ -13,7 +13,7 @@ use fir_sinc::window::Window;
 use verdict::{BAD_COUNT, BAD_SUM, Refusal};
 
 // A design: the low-pass that it is made from, how many taps, and the sum that they are divided by last.
-#[derive(Drop)]
+#[derive(Clone, Copy)]
 pub struct HalfbandDesign {
     pub lp: Lowpass,
     pub n: u64,
@@ -21,7 +21,7 @@ pub struct HalfbandDesign {
 }
 
 // A design, or why not.
-#[derive(Drop)]
+#[derive(Clone, Copy)]
 pub enum HalfbandDesigned {
     Ready(HalfbandDesign),
     Refused(Refusal),

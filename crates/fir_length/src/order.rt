@@ -9,7 +9,7 @@ use math_numbers::PI;
 use verdict::{BAD_ATTENUATION, BAD_TRANSITION, Length, Refusal};
 
 // How many taps, and beta; or why not.
-#[derive(Drop)]
+#[derive(Clone, Copy)]
 pub enum Order {
     Taps(u64, f64),
     Refused(Refusal),

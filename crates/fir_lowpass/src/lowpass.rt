@@ -13,7 +13,7 @@ use verdict::{
 
 // A design: how many taps, the cutoff as a fraction of the rate, the window, the value that the window is divided by
 // (the series at beta, 1 where the window isn't Kaiser's), and the sum that the taps are divided by.
-#[derive(Drop)]
+#[derive(Clone, Copy)]
 pub struct Lowpass {
     pub n: u64,
     pub fc: f64,
@@ -23,7 +23,7 @@ pub struct Lowpass {
 }
 
 // A design, or why not.
-#[derive(Drop)]
+#[derive(Clone, Copy)]
 pub enum Designed {
     Ready(Lowpass),
     Refused(Refusal),

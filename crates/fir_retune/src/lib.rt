@@ -11,7 +11,7 @@ use fir_sinc::window::Window;
 use verdict::{BAD_CODE, Refusal, Verdict};
 
 // The record after a turn, and whether it was turned.
-#[derive(Drop)]
+#[derive(Clone, Copy)]
 pub struct Retuned {
     pub design: Lowpass,
     pub verdict: Verdict,

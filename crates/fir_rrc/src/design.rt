@@ -11,7 +11,7 @@ use verdict::{BAD_COUNT, BAD_SHAPE, Length, Refusal};
 const SQRT_2: f64 = 1.4142135623730951;
 
 // A design: the roll-off, the samples of a symbol, how many taps, and the factor that makes their energy 1.
-#[derive(Drop)]
+#[derive(Clone, Copy)]
 pub struct Rrc {
     pub rolloff: f64,
     pub sps: u64,
@@ -20,7 +20,7 @@ pub struct Rrc {
 }
 
 // A design, or why not.
-#[derive(Drop)]
+#[derive(Clone, Copy)]
 pub enum RrcDesigned {
     Ready(Rrc),
     Refused(Refusal),

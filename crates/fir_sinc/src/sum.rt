@@ -55,7 +55,7 @@ fn is_mirrored_sinc(x: f64, y: f64) -> bool
 }
 
 // A tap without its window, and whether its mirror image is at hand and has the same.
-#[derive(Drop)]
+#[derive(Clone, Copy)]
 struct Near {
     ideal: f64,
     same: bool,
@@ -213,7 +213,7 @@ fn rest_taken(fc: f64, w: Window, i0: f64, n: u64, from: u64, begun: f64, raws: 
 
 // How a sum of raw taps goes: the first `front` are worked out two at a time, and what tap i is without its window goes
 // to the place `last` − i; of the first `half` that is the place of their mirror images.
-#[derive(Drop)]
+#[derive(Clone, Copy)]
 struct Plan {
     front: u64,
     last: u64,

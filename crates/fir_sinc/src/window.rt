@@ -10,7 +10,7 @@ use win_shapes::curve::Curve;
 use win_shapes::{cosines, curve, kaiser};
 
 // Kaiser's window carries its shape, beta; a loaded one its numbers.
-#[derive(Drop)]
+#[derive(Clone, Copy)]
 pub enum Window {
     Hann,
     Hamming,

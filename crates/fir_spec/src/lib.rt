@@ -11,7 +11,7 @@ use fir_sinc::window::Window;
 use verdict::{BAD_FREQUENCY, BAD_RATE, BAD_TRANSITION, Length, Refusal};
 
 // The cutoff, the width of the transition around it, and the attenuation in dB beyond it.
-#[derive(Drop)]
+#[derive(Clone, Copy)]
 pub struct DesignSpec {
     pub cutoff: f64,
     pub transition: f64,

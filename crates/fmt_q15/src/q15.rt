@@ -9,7 +9,7 @@ use verdict::{Refusal, Verdict};
 const LIMIT: f64 = (1.0 - 1.0 / 32768.0) * 1.01;
 
 // A Q15 number, or why there is none.
-#[derive(Drop)]
+#[derive(Clone, Copy)]
 pub enum Coded {
     Number(i16),
     Refused(Refusal),

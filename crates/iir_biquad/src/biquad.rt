@@ -6,7 +6,7 @@ use math_numbers::PI;
 use verdict::{BAD_FREQUENCY, BAD_SHAPE, Refusal, Verdict};
 
 // What a section lets through.
-#[derive(Drop)]
+#[derive(Clone, Copy)]
 pub enum Response {
     Lowpass,
     Highpass,
@@ -15,7 +15,7 @@ pub enum Response {
 }
 
 // b0, b1, b2, a1, a2 with a0 = 1; zeros where refused.
-#[derive(Drop)]
+#[derive(Clone, Copy)]
 pub struct Biquad {
     pub coefs: [f64; 5],
     pub verdict: Verdict,

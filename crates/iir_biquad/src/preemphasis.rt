@@ -6,7 +6,7 @@ use math_numbers::PI;
 use verdict::{BAD_RATE, BAD_SHAPE, Refusal, Verdict};
 
 // b0, b1, a1 with a0 = 1; zeros where refused.
-#[derive(Drop)]
+#[derive(Clone, Copy)]
 pub struct Preemphasis {
     pub coefs: [f64; 3],
     pub verdict: Verdict,

@@ -11,7 +11,7 @@ ghost use Rattle.math_bessel.specs.Laws.{Going};
 
 // A sum, how many terms after the leading 1 it took, 1 to 500, and whether it has settled: its last term is below 1e-17
 // of it, and it is finite.
-#[derive(Drop)]
+#[derive(Clone, Copy)]
 pub struct Series {
     pub sum: f64,
     pub terms: u64,
@@ -19,7 +19,7 @@ pub struct Series {
 }
 
 // The sums at two arguments.
-#[derive(Drop)]
+#[derive(Clone, Copy)]
 pub struct Pair {
     pub first: f64,
     pub second: f64,

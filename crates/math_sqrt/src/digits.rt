@@ -4,7 +4,7 @@ ghost use Rattle.math_sqrt.specs.WholeRoot.{Root};
 ghost use Rattle.math_sqrt.specs.Digits.{Going};
 
 // The digits found so far, and twice what their square leaves over.
-#[derive(Drop)]
+#[derive(Clone, Copy)]
 struct Found {
     q: u64,
     rest: u64,

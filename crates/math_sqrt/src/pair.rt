@@ -9,14 +9,14 @@ use crate::format::LEAD;
 use crate::sqrt::{evened, pattern, sqrt};
 
 // The roots of two numbers.
-#[derive(Drop)]
+#[derive(Clone, Copy)]
 pub struct Roots {
     pub first: f64,
     pub second: f64,
 }
 
 // Their patterns.
-#[derive(Drop)]
+#[derive(Clone, Copy)]
 struct Patterns {
     first: u64,
     second: u64,

@@ -10,7 +10,7 @@ use crate::format::LEAD;
 use crate::rounded::rounded;
 
 // A value as m * 2 ^ g, in parts of 2 ^ -1024 of the smallest f64.
-#[derive(Drop)]
+#[derive(Clone, Copy)]
 pub(crate) struct Scaled {
     pub m: u64,
     pub g: u64,

@@ -3,7 +3,7 @@ ghost use Rattle.std.specs.Prelude.{◌^◌, ◌<◌};
 ghost use Rattle.math_sqrt.specs.Square.{Squared};
 
 // high * 2 ^ 54 + low.
-#[derive(Drop)]
+#[derive(Clone, Copy)]
 pub(crate) struct Parts {
     pub high: u64,
     pub low: u64,

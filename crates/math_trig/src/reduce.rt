@@ -17,7 +17,7 @@ const P3: f64 = 8677769.0 / 4722366482869645213696.0;
 
 const P4: f64 = 9225495.0 / 79228162514264337593543950336.0;
 
-#[derive(Drop)]
+#[derive(Clone, Copy)]
 pub(crate) struct Reduced {
     pub quadrant: u64,
     pub rest: f64,

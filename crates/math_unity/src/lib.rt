@@ -12,13 +12,13 @@ ghost use Rattle.math_unity.specs.Digits.{pos_of, neg_of, run, near_run};
 ghost use Rattle.math_unity.specs.Parts.{Held};
 
 // A digit of a number, 50 bits of it, and the rest.
-#[derive(Drop)]
+#[derive(Clone, Copy)]
 struct Piece {
     digit: u64,
     rest: f64,
 }
 
-#[derive(Drop)]
+#[derive(Clone, Copy)]
 struct Five {
     a: f64,
     b: f64,
@@ -28,14 +28,14 @@ struct Five {
 }
 
 // The sum of five numbers' digits, and their rests.
-#[derive(Drop)]
+#[derive(Clone, Copy)]
 struct Pieces {
     sum: u64,
     rest: Five,
 }
 
 // The sizes of the numbers above 0 and of those below it, and what was counted of each.
-#[derive(Drop)]
+#[derive(Clone, Copy)]
 struct Sides {
     p: Five,
     n: Five,

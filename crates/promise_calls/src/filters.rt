@@ -6,7 +6,7 @@ use c_formats::buffers::pel_to_q15;
 use verdict::Report;
 
 // What both were told.
-#[derive(Drop)]
+#[derive(Clone, Copy)]
 pub struct Filter {
     pub design: Report,
     pub conversion: Report,

@@ -13,7 +13,7 @@ pub fn write_ticket(ticket: Numbers, out: &mut [u8]) -> Report
 }
 
 // What the writer and the reader tell.
-#[derive(Drop)]
+#[derive(Clone, Copy)]
 pub struct BothWays {
     pub written: Report,
     pub found: TicketRead,

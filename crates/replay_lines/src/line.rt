@@ -13,33 +13,33 @@ pub const TEXT: usize = 1636;
 // A space and 16 digits.
 const STEP: usize = 17;
 
-#[derive(Drop)]
+#[derive(Clone, Copy)]
 enum Digit {
     Value(u64),
     NoDigit,
 }
 
 // The kind 0 says that the line cannot be read: no group of kinds has it.
-#[derive(Drop)]
+#[derive(Clone, Copy)]
 pub struct Line {
     pub kind: usize,
     pub count: usize,
 }
 
 // A kind and the index of the first byte after it.
-#[derive(Drop)]
+#[derive(Clone, Copy)]
 struct Kind {
     value: usize,
     end: usize,
 }
 
-#[derive(Drop)]
+#[derive(Clone, Copy)]
 enum Word {
     Bits(u64),
     NoWord,
 }
 
-#[derive(Drop)]
+#[derive(Clone, Copy)]
 enum Count {
     Words(usize),
     Broken,

@@ -9,7 +9,7 @@ pub const CHUNK: usize = 4096;
 
 // How far the input is read: the part of the chunk that is not taken yet, and whether the input is at its end. Then the
 // line that was taken last: its bytes, whether its newline came, its kind and its words; done says that there was none.
-#[derive(Drop)]
+#[derive(Clone, Copy)]
 pub struct Source {
     pub from: usize,
     pub until: usize,

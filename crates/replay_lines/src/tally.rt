@@ -13,7 +13,7 @@ pub const COUNTS: usize = 2 * KINDS;
 // How many of the differing lines are named: the counts tell of the others.
 const NAMED: u64 = 10;
 
-#[derive(Drop)]
+#[derive(Clone, Copy)]
 pub enum Verdict {
     Same,
     Differs,
@@ -29,7 +29,7 @@ pub fn judged(same: bool) -> Verdict {
 }
 
 // How many lines there were, and what they came to.
-#[derive(Drop)]
+#[derive(Clone, Copy)]
 pub struct Tally {
     pub lines: u64,
     pub answers: u64,

@@ -7,7 +7,7 @@ use verdict::Verdict;
 
 // How many tickets were read, at which byte reading ended, and how: at the end of the card, or at a record that is
 // refused.
-#[derive(Drop)]
+#[derive(Clone, Copy)]
 pub struct Checked {
     pub tickets: u64,
     pub place: usize,

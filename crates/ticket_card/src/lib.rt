@@ -9,7 +9,7 @@ mod fields;
 pub mod reader;
 
 // What reading finds: a ticket with the number of bytes that its record takes, or why there is none.
-#[derive(Drop)]
+#[derive(Clone, Copy)]
 pub enum Reading {
     Read(Ticket, usize),
     Refused(Refusal),

@@ -7,7 +7,7 @@ ghost use Rattle.ticket_codes.specs.Codes.{window_of, code_of, shape_of};
 use fir_sinc::window::Window;
 
 // A window, or a code that none has.
-#[derive(Drop)]
+#[derive(Clone, Copy)]
 pub enum Coded {
     Known(Window),
     Unknown,

@@ -7,7 +7,7 @@ use win_shapes::cosines::Cosines;
 pub mod numbers;
 
 // The window of a low-pass ticket: Kaiser with the bits of its beta, or a loaded one, which has no code.
-#[derive(Drop)]
+#[derive(Clone, Copy)]
 pub enum TicketWindow {
     Hann,
     Hamming,
@@ -16,7 +16,7 @@ pub enum TicketWindow {
     Loaded(Cosines),
 }
 
-#[derive(Drop)]
+#[derive(Clone, Copy)]
 pub struct LowpassTicket {
     pub cutoff: u64,
     pub rate: u64,
@@ -24,7 +24,7 @@ pub struct LowpassTicket {
     pub count: u64,
 }
 
-#[derive(Drop)]
+#[derive(Clone, Copy)]
 pub struct SpecTicket {
     pub cutoff: u64,
     pub transition: u64,
@@ -33,27 +33,27 @@ pub struct SpecTicket {
     pub cap: u64,
 }
 
-#[derive(Drop)]
+#[derive(Clone, Copy)]
 pub struct HalfbandTicket {
     pub beta: u64,
     pub count: u64,
 }
 
-#[derive(Drop)]
+#[derive(Clone, Copy)]
 pub struct GaussianTicket {
     pub bt: u64,
     pub samples: u64,
     pub span: u64,
 }
 
-#[derive(Drop)]
+#[derive(Clone, Copy)]
 pub struct RrcTicket {
     pub rolloff: u64,
     pub samples: u64,
     pub span: u64,
 }
 
-#[derive(Drop)]
+#[derive(Clone, Copy)]
 pub struct ChannelizerTicket {
     pub channels: u64,
     pub branch: u64,
@@ -62,7 +62,7 @@ pub struct ChannelizerTicket {
     pub attenuation: u64,
 }
 
-#[derive(Drop)]
+#[derive(Clone, Copy)]
 pub enum Ticket {
     Lowpass(LowpassTicket),
     Spec(SpecTicket),

@@ -10,7 +10,7 @@ use verdict::{BAD_CODE, Refusal, UNKNOWN_KIND};
 
 // The kind, 1 to 6, and the fields in the order of its record; those past the kind's are 0.
 #[repr(C)]
-#[derive(Drop)]
+#[derive(Clone, Copy)]
 pub struct Numbers {
     pub kind: u64,
     pub first: u64,
@@ -21,7 +21,7 @@ pub struct Numbers {
 }
 
 // The ticket of a kind and its fields, or why there is none.
-#[derive(Drop)]
+#[derive(Clone, Copy)]
 pub enum Formed {
     Known(Ticket),
     Refused(Refusal),

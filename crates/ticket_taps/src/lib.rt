@@ -16,7 +16,7 @@ use fir_rrc::design::Rrc;
 use math_numbers::TAP_LIMIT;
 
 // A design of any kind.
-#[derive(Drop)]
+#[derive(Clone, Copy)]
 pub enum Source {
     Lowpass(Lowpass),
     Halfband(HalfbandDesign),

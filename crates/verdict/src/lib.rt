@@ -44,7 +44,7 @@ pub const UNKNOWN_KIND: u32 = 13;
 pub const BAD_RECORD_LENGTH: u32 = 14;
 
 // Why a ticket is refused: a shape with its number, so that a new number needs no new shape.
-#[derive(Drop)]
+#[derive(Clone, Copy)]
 pub enum Refusal {
     // The number alone.
     Plain(u32),
@@ -59,14 +59,14 @@ pub enum Refusal {
 }
 
 // Done, or why not: a buffer filled or as it came, a conversion ended or stopped, a judgement passed or not.
-#[derive(Drop)]
+#[derive(Clone, Copy)]
 pub enum Verdict {
     Done,
     Refused(Refusal),
 }
 
 // How many taps, or why not.
-#[derive(Drop)]
+#[derive(Clone, Copy)]
 pub enum Length {
     Taps(u64),
     Refused(Refusal),
@@ -74,7 +74,7 @@ pub enum Length {
 
 // What a design is judged to be without its buffer: how many taps, and what they are divided by last, or why it is
 // none.
-#[derive(Drop)]
+#[derive(Clone, Copy)]
 pub enum Judged {
     Accepted(u64, f64),
     Refused(Refusal),
@@ -82,7 +82,7 @@ pub enum Judged {
 
 // What an export answers, for acceptance and refusal alike; a field that does not apply is 0.
 #[repr(C)]
-#[derive(Drop)]
+#[derive(Clone, Copy)]
 pub struct Report {
     // 0 where the ticket is accepted, else the refusal's number.
     pub number: u32,

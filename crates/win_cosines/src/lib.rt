@@ -17,7 +17,7 @@ use verdict::{BAD_COEFFICIENT, BAD_COEFFICIENT_COUNT, BAD_COEFFICIENT_SUM, Refus
 use win_shapes::cosines::Cosines;
 
 // A window to design with, or why not.
-#[derive(Drop)]
+#[derive(Clone, Copy)]
 pub enum Loading {
     Loaded(Cosines),
     Refused(Refusal),

@@ -5,7 +5,7 @@ ghost use Rattle.std.specs.Prelude.{◌≡◌};
 ghost use Rattle.win_gain.specs.Gain.{summed, gain_of};
 
 // The coherent gain, Σ w / n, and the noise-equivalent bandwidth in bins, n Σ w² / (Σ w)².
-#[derive(Drop)]
+#[derive(Clone, Copy)]
 pub struct Gain {
     pub gain: f64,
     pub bandwidth: f64,

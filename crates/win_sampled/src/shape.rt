@@ -10,7 +10,7 @@ use win_shapes::curve::Curve;
 use win_shapes::{cosines, curve, kaiser};
 
 // Kaiser's window carries its shape, beta.
-#[derive(Drop)]
+#[derive(Clone, Copy)]
 pub enum Shape {
     Hann,
     BlackmanHarris,
@@ -18,7 +18,7 @@ pub enum Shape {
 }
 
 // Periodic for spectral analysis, symmetric for filters.
-#[derive(Drop)]
+#[derive(Clone, Copy)]
 pub enum Symmetry {
     Periodic,
     Symmetric,

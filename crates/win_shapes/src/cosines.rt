@@ -4,7 +4,7 @@ ghost use Rattle.win_shapes.specs.Windows.{hann_at, hamming_at, blackman_at, har
 
 // The numbers of a sum of cosines. C keeps them too.
 #[repr(C)]
-#[derive(Drop)]
+#[derive(Clone, Copy)]
 pub struct Cosines {
     pub c0: f64,
     pub c1: f64,

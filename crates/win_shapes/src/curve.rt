@@ -8,7 +8,7 @@ use math_bessel::Pair;
 use math_numbers::PI;
 
 // A sum of cosines, or Kaiser's curve with its beta.
-#[derive(Drop)]
+#[derive(Clone, Copy)]
 pub enum Curve {
     Cosines,
     Kaiser(f64),

@@ -1,0 +1,13 @@
+-- `math_unity::below` meets its contract. Assumes nothing.
+use Rattle.std.proofs.Common.{refl}
+use lib.Ieee.{of_bits}
+use Rattle.math_unity.specs.Digits.{neg_of}
+use Rattle.math_unity.proofs.below.Goals as goal
+
+pub returns-then-x : goal.returns-then-x
+unfolding neg_of of_bits
+returns-then-x c = rw c.if-x.true refl
+
+pub returns-else-x : goal.returns-else-x
+unfolding neg_of of_bits
+returns-else-x c = rw c.if-x.false refl
