@@ -14,11 +14,11 @@ loop-left-init c = (search rules, refl)
 
 pub loop-left-preserved : goal.loop-left-preserved
 unfolding step of_int of_bits
-loop-left-preserved c = (omega arith, smaller c.loop-left.left c.args.w c.loop-left.y (omega arith) (not-false _ c.if-not-next-y.false) ∙ c.loop-left.invariant.1)
+loop-left-preserved c = (omega arith, smaller c.loop-left.left c.args.w c.loop-left.y (omega arith) (c.if-not-next-y.false) ∙ c.loop-left.invariant.1)
 
 pub returns-then-left-eq0 : goal.returns-then-left-eq0
 returns-then-left-eq0 c = sym (none_left c.loop-left.left _ _ c.if-left-eq0.true) ∙ c.loop-left.invariant.1
 
 pub returns-then-not-next-y : goal.returns-then-not-next-y
 unfolding step of_int of_bits
-returns-then-not-next-y c = sym (not_smaller c.loop-left.left c.args.w c.loop-left.y (not-true _ c.if-not-next-y.true)) ∙ c.loop-left.invariant.1
+returns-then-not-next-y c = sym (not_smaller c.loop-left.left c.args.w c.loop-left.y (c.if-not-next-y.true)) ∙ c.loop-left.invariant.1

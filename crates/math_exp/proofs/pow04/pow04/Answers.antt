@@ -1,9 +1,9 @@
 -- `math_exp::pow04::pow04` meets its contract: a zero, inside the range, outside it. Assumes nothing.
 use Rattle.std.proofs.Common.{◌∙◌, rules}
 use lib.Ieee.{of_int, of_bits, div}
-use Rattle.laws.specs.Cases.{either}
 use Rattle.math_exp.proofs.Pow04Laws.{at_zero, inside, outside}
 use Rattle.math_exp.proofs.pow04.pow04.Goals as goal
+use Rattle.math_exp.proofs.pow04.pow04.Goals.{else-v-via-then-v+else-v-2, else-v-via-else-v}
 
 pub returns-then-v-3 : goal.returns-then-v-3
 unfolding of_int of_bits
@@ -15,4 +15,8 @@ returns-else-v-3 c = c.fifth_root.ensures ∙ inside c.args.v c.if-v.true c.if-v
 
 pub returns-else-v : goal.returns-else-v
 unfolding of_int of_bits div
-returns-else-v c = outside c.args.v (either c.else-v.branch (λ w. rw (w.0.taken, w.1.left)) (λ w. rw w.left))
+returns-else-v c =
+    elim c.else-v.branch [
+      | else-v-via-then-v+else-v-2 w ↦ outside c.args.v (rw (w.if-v.true, w.if-v-2.false))
+      | else-v-via-else-v w ↦ outside c.args.v (rw w.if-v.false)
+    ]

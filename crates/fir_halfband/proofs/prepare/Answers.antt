@@ -1,0 +1,51 @@
+-- `fir_halfband::prepare` meets its contract: what each test says, and then an answer at a time. Assumes nothing.
+use mathlib.Core.Path.{◌≡◌, sym, ap, ◌∙◌}
+use mathlib.Core.Bool.{true}
+use borrow.Author.Rules.{rules}
+use borrow.Author.Tests.{not-true, not-false}
+use lib.Ieee.{of_bits, of_int, round}
+use Rattle.fir_lowpass.specs.Lowpass.{usable}
+use Rattle.fir_lowpass.specs.declared.lowpass.Lowpass.{Lowpass}
+use Rattle.fir_halfband.specs.Halfband.{length_taken, quarter_of, divisor_of}
+use Rattle.fir_halfband.specs.HalfbandLaws.{ready, no_divisor, no_lowpass, no_length, refuses, accepts}
+use Rattle.fir_halfband.proofs.prepare.Goals as goal
+
+pub returns-then-not-takes_length : goal.returns-then-not-takes_length
+returns-then-not-takes_length c =
+    let a = c.args in
+    refuses a.beta a.n _ _ (no_length a.beta a.n (sym c.takes_length.ensures ∙ c.if-not-takes_length.true))
+
+pub returns-then-not-is_usable : goal.returns-then-not-is_usable
+unfolding of_int of_bits round divisor_of
+returns-then-not-is_usable c =
+    let past : length_taken c.args.n ≡ true = sym c.takes_length.ensures ∙ c.if-not-takes_length.false in
+    let quarter : quarter_of c.args.beta c.args.n ≡ c.prepare-designed.result = sym c.prepare-designed.ensures.is in
+    let lowpass : Lowpass = c.in-Ready.lp in
+    let lowpass : Lowpass = c.in-Ready.lp in
+    let divided : c.total-sum.result ≡ divisor_of lowpass c.args.n = let lowpass : Lowpass = c.in-Ready.lp in
+    c.total-sum.ensures (c.prepare-designed.ensures.raws lowpass c.in-Ready.is) in
+    let a = c.args in
+    refuses a.beta a.n _ _
+    (no_divisor a.beta a.n past lowpass (quarter ∙ c.in-Ready.is) (ap usable (sym divided) ∙ sym c.is_usable.ensures ∙ c.if-not-is_usable.true))
+
+pub returns-else-not-is_usable : goal.returns-else-not-is_usable
+unfolding of_int of_bits round divisor_of
+returns-else-not-is_usable c =
+    let past : length_taken c.args.n ≡ true = sym c.takes_length.ensures ∙ c.if-not-takes_length.false in
+    let quarter : quarter_of c.args.beta c.args.n ≡ c.prepare-designed.result = sym c.prepare-designed.ensures.is in
+    let lowpass : Lowpass = c.in-Ready.lp in
+    let lowpass : Lowpass = c.in-Ready.lp in
+    let divided : c.total-sum.result ≡ divisor_of lowpass c.args.n = let lowpass : Lowpass = c.in-Ready.lp in
+    c.total-sum.ensures (c.prepare-designed.ensures.raws lowpass c.in-Ready.is) in
+    let a = c.args in
+    let e = c.in-Ready.is in
+    accepts a.beta a.n lowpass c.total-sum.result _ divided (c.prepare-designed.ensures.raws lowpass e)
+    (ready a.beta a.n past lowpass (quarter ∙ e) (ap usable (sym divided) ∙ sym c.is_usable.ensures ∙ c.if-not-is_usable.false))
+
+pub returns-in-Refused : goal.returns-in-Refused
+unfolding of_int of_bits round
+returns-in-Refused c =
+    let past : length_taken c.args.n ≡ true = sym c.takes_length.ensures ∙ c.if-not-takes_length.false in
+    let quarter : quarter_of c.args.beta c.args.n ≡ c.prepare-designed.result = sym c.prepare-designed.ensures.is in
+    let a = c.args in
+    refuses a.beta a.n c.in-Refused.why _ (no_lowpass a.beta a.n past c.in-Refused.why (quarter ∙ c.in-Refused.is))

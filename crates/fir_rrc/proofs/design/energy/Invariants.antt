@@ -1,0 +1,17 @@
+-- `fir_rrc::design::energy` meets its contract. The loop's invariant: the energy of the taps so far. Assumes nothing.
+use Rattle.std.proofs.Common.{◌≡◌, ℕ, ◌-◌, ◌≤◌, ap, ◌∙◌, arith, rules}
+use lib.Ieee.{Float, binary64}
+use Rattle.laws.specs.Binary64.{◌⊕◌, ◌⊗◌}
+use Rattle.laws.specs.Sums.{sum_to, sum_none, sum_more}
+use Rattle.fir_rrc.specs.Rrc.{unscaled_at}
+use Rattle.fir_rrc.proofs.design.energy.Given as goal
+
+-- a tap squared
+abbrev pub square : Float → ℕ → ℕ → ℕ → Float
+square b sps n k = unscaled_at b sps n k ⊗ unscaled_at b sps n k
+
+abbrev pub invariant-loop-k : goal.invariant-loop-k
+invariant-loop-k l = (l.k ≤ l.n) × (l.sum ≡ sum_to binary64 (square l.b l.sps l.n) l.k)
+
+abbrev pub decreases-loop-k : goal.decreases-loop-k
+decreases-loop-k l = l.n - l.k

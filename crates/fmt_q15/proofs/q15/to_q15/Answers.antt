@@ -1,0 +1,56 @@
+-- `fmt_q15::q15::to_q15` meets its contract. The loop's invariant: the elements so far are taken, and their numbers
+-- stand at the front. Assumes nothing.
+use mathlib.Core.Path.{sym, ap, ◌∙◌}
+use Prim.Native.Nat.{◌≤◌, ◌-◌}
+use native.Mathlib.Nat.{mod-one}
+use native.Mathlib.Omega.{arith}
+use mir.Syntax.{w16}
+use mir.ValLaws.{to_z-of_z}
+use borrow.Author.Rules.{rules}
+use lib.IntN.{ℤ}
+use lib.ListN.{set, get_or}
+use lib.Ieee.{nan}
+use Rattle.verdict.specs.ConvertsLaws.{other_count, same_count, Reached, stopped, all_taken, at_first, lengths_refused, same_size, one_more, ends}
+use Rattle.fmt_q15.specs.Q15.{takes, q15_of}
+use Rattle.fmt_q15.specs.Q15Laws.{tap_number, tap_refused}
+use Rattle.fmt_q15.proofs.q15.to_q15.Goals as goal
+
+pub returns-then-n-dst : goal.returns-then-n-dst
+returns-then-n-dst c = lengths_refused (other_count 1 _ _ (mod-one _) c.if-n-dst.true)
+
+pub loop-i-init : goal.loop-i-init
+loop-i-init c = (omega arith, at_first takes q15_of _ _)
+
+pub offset_bounds-src-i : goal.offset_bounds-src-i
+offset_bounds-src-i c = record { fits = omega (arith, c.well_formed.0.1) }
+
+pub offset_bounds-dst-i : goal.offset_bounds-dst-i
+offset_bounds-dst-i c = record { fits = omega (arith, c.well_formed.1.0.1) }
+
+pub bounds-dst-i : goal.bounds-dst-i
+bounds-dst-i c = omega (arith, same_size c.loop-i.invariant.1 (omega arith))
+
+pub shape_of-dst-in-Refused : goal.shape_of-dst-in-Refused
+shape_of-dst-in-Refused c = same_size c.loop-i.invariant.1 (omega arith)
+
+pub returns-in-Refused : goal.returns-in-Refused
+returns-in-Refused c =
+    let s = c.args.src.now in
+    let i = c.loop-i.i in
+    let t = tap_refused i (get_or s i nan) c.in-Refused.why (sym c.q15_tap-coded.ensures ∙ c.in-Refused.is) in
+    ends c.loop-i.invariant.1 (same_count 1 _ _ (mod-one _) (omega arith)) (stopped c.loop-i.invariant.1.taken (omega arith) t.0 t.1)
+
+pub loop-i-preserved : goal.loop-i-preserved
+loop-i-preserved c =
+    let s = c.args.src.now in
+    let i = c.loop-i.i in
+    let q = c.in-Number.q in
+    let t = tap_number i (get_or s i nan) q (sym c.q15_tap-coded.ensures ∙ c.in-Number.is) in
+    let stored = to_z-of_z w16 q (record { sfits = c.in-Number.known_told-1-own.given.0.1 }) in
+    (omega arith, one_more c.loop-i.invariant.1 (omega arith) (omega arith) t.0 (ap (λ (z : ℤ). set c.loop-i.dst i z) (stored ∙ sym t.1)))
+
+pub shape_of-dst : goal.shape_of-dst
+shape_of-dst c = same_size c.loop-i.invariant.1 (omega arith)
+
+pub returns : goal.returns
+returns c = ends c.loop-i.invariant.1 (same_count 1 _ _ (mod-one _) (omega arith)) (all_taken c.loop-i.invariant.1.taken (omega arith))

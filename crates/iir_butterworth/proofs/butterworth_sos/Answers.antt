@@ -1,0 +1,95 @@
+-- `iir_butterworth::butterworth_sos` meets its contract: what `judge` answers, and then the loop. Its invariant: the
+-- sections so far stand at the front. Assumes nothing.
+use mathlib.Core.Path.{◌≡◌, sym, ap, ◌∙◌}
+use mathlib.Core.List.{List}
+use Prim.Native.Nat.{ℕ, ◌*◌, ◌≤◌, ◌-◌}
+use native.Mathlib.Omega.{arith}
+use borrow.Author.Rules.{rules}
+use lib.ListN.{length}
+use lib.Seq.{sets}
+use lib.Ieee.{Float}
+use Rattle.laws.specs.Filled.{tabulate, filled, fill_none, fill_all, length_filled}
+use Rattle.verdict.specs.OutcomeLaws.{fills, leaves}
+use Rattle.iir_butterworth.specs.Butterworth.{coef_at}
+use Rattle.iir_butterworth.specs.SectionLaws.{section_stored, Right, right, turned}
+use Rattle.iir_butterworth.proofs.butterworth_sos.Goals as goal
+
+pub sections-count-requires : goal.sections-count-requires
+sections-count-requires c =
+    let told : (let a = c.args in Right a.response a.order a.cutoff a.rate (length a.sos.now)) = let a = c.args in right a.response a.order a.cutoff a.rate (length a.sos.now) (sym c.in-Done.is ∙ c.judge-judged.ensures) in
+    told.taken.most
+
+pub loop-i-init : goal.loop-i-init
+loop-i-init c = (omega arith, fill_none _ _)
+
+pub section_at-coefs-requires : goal.section_at-coefs-requires
+section_at-coefs-requires c =
+    let told : (let a = c.args in Right a.response a.order a.cutoff a.rate (length a.sos.now)) = let a = c.args in right a.response a.order a.cutoff a.rate (length a.sos.now) (sym c.in-Done.is ∙ c.judge-judged.ensures) in
+    let few : c.sections-count.result ≤ 4 = let told : (let a = c.args in Right a.response a.order a.cutoff a.rate (length a.sos.now)) = let a = c.args in right a.response a.order a.cutoff a.rate (length a.sos.now) (sym c.in-Done.is ∙ c.judge-judged.ensures) in
+    let o = told.taken in
+    omega arith in
+    let n = few in
+    record { order_high = told.taken.most; i_high = omega arith }
+
+pub overflow_mul-i : goal.overflow_mul-i
+overflow_mul-i c =
+    let few : c.sections-count.result ≤ 4 = let told : (let a = c.args in Right a.response a.order a.cutoff a.rate (length a.sos.now)) = let a = c.args in right a.response a.order a.cutoff a.rate (length a.sos.now) (sym c.in-Done.is ∙ c.judge-judged.ensures) in
+    let o = told.taken in
+    omega arith in
+    let n = few in omega arith
+
+pub put_section-requires : goal.put_section-requires
+put_section-requires c =
+    let counted : c.sections-count.result * 5 ≡ length c.args.sos.now = let told : (let a = c.args in Right a.response a.order a.cutoff a.rate (length a.sos.now)) = let a = c.args in right a.response a.order a.cutoff a.rate (length a.sos.now) (sym c.in-Done.is ∙ c.judge-judged.ensures) in
+    let t = told in ap (λ (n : ℕ). n * 5) c.sections-count.ensures ∙ sym t.count in
+    let as_long : length c.loop-i.sos ≡ length c.args.sos.now = let counted : c.sections-count.result * 5 ≡ length c.args.sos.now = let told : (let a = c.args in Right a.response a.order a.cutoff a.rate (length a.sos.now)) = let a = c.args in right a.response a.order a.cutoff a.rate (length a.sos.now) (sym c.in-Done.is ∙ c.judge-judged.ensures) in
+    let t = told in ap (λ (n : ℕ). n * 5) c.sections-count.ensures ∙ sym t.count in
+    let n = counted in
+    ap length c.loop-i.invariant.1 ∙ length_filled _ _ _ (omega arith) in
+    let n = counted in
+    let l = as_long in
+    omega arith
+
+pub overflow_step-i : goal.overflow_step-i
+overflow_step-i c =
+    let few : c.sections-count.result ≤ 4 = let told : (let a = c.args in Right a.response a.order a.cutoff a.rate (length a.sos.now)) = let a = c.args in right a.response a.order a.cutoff a.rate (length a.sos.now) (sym c.in-Done.is ∙ c.judge-judged.ensures) in
+    let o = told.taken in
+    omega arith in
+    let n = few in omega arith
+
+pub loop-i-preserved : goal.loop-i-preserved
+loop-i-preserved c =
+    let counted : c.sections-count.result * 5 ≡ length c.args.sos.now = let told : (let a = c.args in Right a.response a.order a.cutoff a.rate (length a.sos.now)) = let a = c.args in right a.response a.order a.cutoff a.rate (length a.sos.now) (sym c.in-Done.is ∙ c.judge-judged.ensures) in
+    let t = told in ap (λ (n : ℕ). n * 5) c.sections-count.ensures ∙ sym t.count in
+    let a = c.args in
+    let n = counted in
+    let f = coef_at a.response a.order a.cutoff a.rate in (
+      omega arith,
+      c.put_section.ensures
+          ∙ ap (λ (l : List Float). sets l (5 * c.loop-i.i) c.section_at-coefs.result) c.loop-i.invariant.1
+          ∙ ap (sets (filled (5 * c.loop-i.i) f a.sos.now) (5 * c.loop-i.i)) c.section_at-coefs.ensures
+          ∙ section_stored a.response a.order a.cutoff a.rate c.loop-i.i a.sos.now (omega arith),
+    )
+
+pub shape_of-sos : goal.shape_of-sos
+shape_of-sos c =
+    let as_long : length c.loop-i.sos ≡ length c.args.sos.now = let counted : c.sections-count.result * 5 ≡ length c.args.sos.now = let told : (let a = c.args in Right a.response a.order a.cutoff a.rate (length a.sos.now)) = let a = c.args in right a.response a.order a.cutoff a.rate (length a.sos.now) (sym c.in-Done.is ∙ c.judge-judged.ensures) in
+    let t = told in ap (λ (n : ℕ). n * 5) c.sections-count.ensures ∙ sym t.count in
+    let n = counted in
+    ap length c.loop-i.invariant.1 ∙ length_filled _ _ _ (omega arith) in
+    as_long
+
+pub returns-after-loop-i : goal.returns-after-loop-i
+returns-after-loop-i c =
+    let told : (let a = c.args in Right a.response a.order a.cutoff a.rate (length a.sos.now)) = let a = c.args in right a.response a.order a.cutoff a.rate (length a.sos.now) (sym c.in-Done.is ∙ c.judge-judged.ensures) in
+    let counted : c.sections-count.result * 5 ≡ length c.args.sos.now = let told : (let a = c.args in Right a.response a.order a.cutoff a.rate (length a.sos.now)) = let a = c.args in right a.response a.order a.cutoff a.rate (length a.sos.now) (sym c.in-Done.is ∙ c.judge-judged.ensures) in
+    let t = told in ap (λ (n : ℕ). n * 5) c.sections-count.ensures ∙ sym t.count in
+    let a = c.args in
+    let t = told in
+    let m = counted in
+    let n : 5 * c.loop-i.i ≡ length a.sos.now = omega arith in
+    let f = coef_at a.response a.order a.cutoff a.rate in
+    fills t.is (c.loop-i.invariant.1 ∙ fill_all (5 * c.loop-i.i) f a.sos.now (omega arith) ∙ ap (λ (k : ℕ). tabulate k f) n)
+
+pub returns-in-Refused : goal.returns-in-Refused
+returns-in-Refused c = leaves _ (turned _ _ (sym c.in-Refused.is ∙ c.judge-judged.ensures))

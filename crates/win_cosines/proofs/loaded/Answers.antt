@@ -1,0 +1,26 @@
+-- `win_cosines::loaded` meets its contract. Assumes nothing.
+use Rattle.std.proofs.Common.{Bool, cond, sym, ap, ◌∙◌, arith, rules}
+use Rattle.verdict.specs.Numbers.{bad_coefficient_sum}
+use Rattle.verdict.specs.declared.Refusal.TheVariants.{Plain}
+use Rattle.win_cosines.specs.declared.Loading.TheVariants.{Loaded, Refused}
+use Rattle.win_cosines.specs.LoadLaws.{too_few, too_many, not_taken, by_sum}
+use Rattle.win_cosines.proofs.loaded.Goals as goal
+
+pub returns-then-count-lt1 : goal.returns-then-count-lt1
+returns-then-count-lt1 c cs k is = c.miscounted.ensures ∙ too_few cs k is (omega arith)
+
+pub returns-then-count-gt5 : goal.returns-then-count-gt5
+returns-then-count-gt5 c cs k is = c.miscounted-then-count-gt5.ensures ∙ too_many cs k is (omega arith)
+
+pub returns-then-sums_to_one : goal.returns-then-sums_to_one
+returns-then-sums_to_one c cs k is =
+    ap (λ (b : Bool). cond b (Loaded c.args.c) (Refused (Plain bad_coefficient_sum))) (sym c.if-sums_to_one.true)
+    ∙ by_sum cs k is (omega arith) (omega arith) c.sums_to_one.result (sym c.in-Done.is ∙ c.judge-verdict.ensures) c.sums_to_one.ensures
+
+pub returns-else-sums_to_one : goal.returns-else-sums_to_one
+returns-else-sums_to_one c cs k is =
+    ap (λ (b : Bool). cond b (Loaded c.args.c) (Refused (Plain bad_coefficient_sum))) (sym c.if-sums_to_one.false)
+    ∙ by_sum cs k is (omega arith) (omega arith) c.sums_to_one.result (sym c.in-Done.is ∙ c.judge-verdict.ensures) c.sums_to_one.ensures
+
+pub returns-in-Refused : goal.returns-in-Refused
+returns-in-Refused c cs k is = not_taken cs k is (omega arith) (omega arith) _ (sym c.in-Refused.is ∙ c.judge-verdict.ensures)

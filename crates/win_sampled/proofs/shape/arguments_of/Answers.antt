@@ -1,0 +1,10 @@
+-- `win_sampled::shape::arguments_of` meets its contract. Assumes nothing.
+use Rattle.std.proofs.Common.{ap, ◌∙◌, rules}
+use Rattle.win_shapes.specs.declared.curve.Curve.{Curve}
+use Rattle.win_shapes.specs.Steps.{argument_of}
+use Rattle.win_sampled.proofs.shape.arguments_of.Goals as goal
+
+pub returns : goal.returns
+returns c =
+    let a = c.args in
+    record { first = c.arguments_of.ensures.first ∙ ap (λ (z : Curve). argument_of z a.place) c.curve_of.ensures; second = c.arguments_of.ensures.second ∙ ap (λ (z : Curve). argument_of z a.other) c.curve_of.ensures }
