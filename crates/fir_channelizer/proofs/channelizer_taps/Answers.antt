@@ -23,15 +23,9 @@ unfolding of_int of_bits
 returns-then-takes_estimate c =
     let number : Float = let a = c.args in
     estimate a.attenuation (whole 2 ⊗ (a.stopband ⊖ a.passband) ⊘ whole a.channels) in
-    let number : Float = let a = c.args in
-    estimate a.attenuation (whole 2 ⊗ (a.stopband ⊖ a.passband) ⊘ whole a.channels) in
-    let answer : (k : Verdict) → c.check_edges-checked.result ≡ k → channelizer_taps_of c.args.channels c.args.passband c.args.stopband c.args.attenuation ≡ taps_in k number = let number : Float = let a = c.args in
-    estimate a.attenuation (whole 2 ⊗ (a.stopband ⊖ a.passband) ⊘ whole a.channels) in
-    λ k e. let a = c.args in
+    let answer : (k : Verdict) → c.check_edges-checked.result ≡ k → channelizer_taps_of c.args.channels c.args.passband c.args.stopband c.args.attenuation ≡ taps_in k number = λ k e. let a = c.args in
     taps_by_edges a.channels a.passband a.stopband a.attenuation (sym c.takes_channels.ensures ∙ c.if-not-takes_channels.false)
     ∙ ap (λ (z : Verdict). taps_in z number) (sym c.check_edges-checked.ensures ∙ e) in
-    let number : Float = let a = c.args in
-    estimate a.attenuation (whole 2 ⊗ (a.stopband ⊖ a.passband) ⊘ whole a.channels) in
     let estimated : c.taps_estimate-num.result ≡ number = let a = c.args in
     c.taps_estimate-num.ensures ∙ ap (λ (z : Float). estimate a.attenuation (whole 2 ⊗ (a.stopband ⊖ a.passband) ⊘ z)) c.nearest_u64_to_f64.ensures in
     let taken : count_taken number ≡ true = ap count_taken (sym estimated) ∙ sym c.takes_estimate.ensures ∙ c.if-takes_estimate.true in
@@ -42,15 +36,9 @@ unfolding of_int of_bits
 returns-else-takes_estimate c =
     let number : Float = let a = c.args in
     estimate a.attenuation (whole 2 ⊗ (a.stopband ⊖ a.passband) ⊘ whole a.channels) in
-    let number : Float = let a = c.args in
-    estimate a.attenuation (whole 2 ⊗ (a.stopband ⊖ a.passband) ⊘ whole a.channels) in
-    let answer : (k : Verdict) → c.check_edges-checked.result ≡ k → channelizer_taps_of c.args.channels c.args.passband c.args.stopband c.args.attenuation ≡ taps_in k number = let number : Float = let a = c.args in
-    estimate a.attenuation (whole 2 ⊗ (a.stopband ⊖ a.passband) ⊘ whole a.channels) in
-    λ k e. let a = c.args in
+    let answer : (k : Verdict) → c.check_edges-checked.result ≡ k → channelizer_taps_of c.args.channels c.args.passband c.args.stopband c.args.attenuation ≡ taps_in k number = λ k e. let a = c.args in
     taps_by_edges a.channels a.passband a.stopband a.attenuation (sym c.takes_channels.ensures ∙ c.if-not-takes_channels.false)
     ∙ ap (λ (z : Verdict). taps_in z number) (sym c.check_edges-checked.ensures ∙ e) in
-    let number : Float = let a = c.args in
-    estimate a.attenuation (whole 2 ⊗ (a.stopband ⊖ a.passband) ⊘ whole a.channels) in
     let estimated : c.taps_estimate-num.result ≡ number = let a = c.args in
     c.taps_estimate-num.ensures ∙ ap (λ (z : Float). estimate a.attenuation (whole 2 ⊗ (a.stopband ⊖ a.passband) ⊘ z)) c.nearest_u64_to_f64.ensures in
     let left : count_taken number ≡ false = ap count_taken (sym estimated) ∙ sym c.takes_estimate.ensures ∙ c.if-takes_estimate.false in
@@ -60,9 +48,7 @@ pub returns-in-Refused : goal.returns-in-Refused
 returns-in-Refused c =
     let number : Float = let a = c.args in
     estimate a.attenuation (whole 2 ⊗ (a.stopband ⊖ a.passband) ⊘ whole a.channels) in
-    let answer : (k : Verdict) → c.check_edges-checked.result ≡ k → channelizer_taps_of c.args.channels c.args.passband c.args.stopband c.args.attenuation ≡ taps_in k number = let number : Float = let a = c.args in
-    estimate a.attenuation (whole 2 ⊗ (a.stopband ⊖ a.passband) ⊘ whole a.channels) in
-    λ k e. let a = c.args in
+    let answer : (k : Verdict) → c.check_edges-checked.result ≡ k → channelizer_taps_of c.args.channels c.args.passband c.args.stopband c.args.attenuation ≡ taps_in k number = λ k e. let a = c.args in
     taps_by_edges a.channels a.passband a.stopband a.attenuation (sym c.takes_channels.ensures ∙ c.if-not-takes_channels.false)
     ∙ ap (λ (z : Verdict). taps_in z number) (sym c.check_edges-checked.ensures ∙ e) in
     sym (answer (Refused c.in-Refused.why) c.in-Refused.is)

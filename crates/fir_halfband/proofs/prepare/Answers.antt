@@ -21,9 +21,7 @@ returns-then-not-is_usable c =
     let past : length_taken c.args.n ≡ true = sym c.takes_length.ensures ∙ c.if-not-takes_length.false in
     let quarter : quarter_of c.args.beta c.args.n ≡ c.prepare-designed.result = sym c.prepare-designed.ensures.is in
     let lowpass : Lowpass = c.in-Ready.lp in
-    let lowpass : Lowpass = c.in-Ready.lp in
-    let divided : c.total-sum.result ≡ divisor_of lowpass c.args.n = let lowpass : Lowpass = c.in-Ready.lp in
-    c.total-sum.ensures (c.prepare-designed.ensures.raws lowpass c.in-Ready.is) in
+    let divided : c.total-sum.result ≡ divisor_of lowpass c.args.n = c.total-sum.ensures (c.prepare-designed.ensures.raws lowpass c.in-Ready.is) in
     let a = c.args in
     refuses a.beta a.n _ _
     (no_divisor a.beta a.n past lowpass (quarter ∙ c.in-Ready.is) (ap usable (sym divided) ∙ sym c.is_usable.ensures ∙ c.if-not-is_usable.true))
@@ -34,9 +32,7 @@ returns-else-not-is_usable c =
     let past : length_taken c.args.n ≡ true = sym c.takes_length.ensures ∙ c.if-not-takes_length.false in
     let quarter : quarter_of c.args.beta c.args.n ≡ c.prepare-designed.result = sym c.prepare-designed.ensures.is in
     let lowpass : Lowpass = c.in-Ready.lp in
-    let lowpass : Lowpass = c.in-Ready.lp in
-    let divided : c.total-sum.result ≡ divisor_of lowpass c.args.n = let lowpass : Lowpass = c.in-Ready.lp in
-    c.total-sum.ensures (c.prepare-designed.ensures.raws lowpass c.in-Ready.is) in
+    let divided : c.total-sum.result ≡ divisor_of lowpass c.args.n = c.total-sum.ensures (c.prepare-designed.ensures.raws lowpass c.in-Ready.is) in
     let a = c.args in
     let e = c.in-Ready.is in
     accepts a.beta a.n lowpass c.total-sum.result _ divided (c.prepare-designed.ensures.raws lowpass e)

@@ -25,26 +25,23 @@ loop-i-init c = (omega arith, fill_none _ _)
 pub section_at-coefs-requires : goal.section_at-coefs-requires
 section_at-coefs-requires c =
     let told : (let a = c.args in Right a.response a.order a.cutoff a.rate (length a.sos.now)) = let a = c.args in right a.response a.order a.cutoff a.rate (length a.sos.now) (sym c.in-Done.is ∙ c.judge-judged.ensures) in
-    let few : c.sections-count.result ≤ 4 = let told : (let a = c.args in Right a.response a.order a.cutoff a.rate (length a.sos.now)) = let a = c.args in right a.response a.order a.cutoff a.rate (length a.sos.now) (sym c.in-Done.is ∙ c.judge-judged.ensures) in
-    let o = told.taken in
+    let few : c.sections-count.result ≤ 4 = let o = told.taken in
     omega arith in
     let n = few in
     record { order_high = told.taken.most; i_high = omega arith }
 
 pub overflow_mul-i : goal.overflow_mul-i
 overflow_mul-i c =
-    let few : c.sections-count.result ≤ 4 = let told : (let a = c.args in Right a.response a.order a.cutoff a.rate (length a.sos.now)) = let a = c.args in right a.response a.order a.cutoff a.rate (length a.sos.now) (sym c.in-Done.is ∙ c.judge-judged.ensures) in
-    let o = told.taken in
+    let told : (let a = c.args in Right a.response a.order a.cutoff a.rate (length a.sos.now)) = let a = c.args in right a.response a.order a.cutoff a.rate (length a.sos.now) (sym c.in-Done.is ∙ c.judge-judged.ensures) in
+    let few : c.sections-count.result ≤ 4 = let o = told.taken in
     omega arith in
     let n = few in omega arith
 
 pub put_section-requires : goal.put_section-requires
 put_section-requires c =
-    let counted : c.sections-count.result * 5 ≡ length c.args.sos.now = let told : (let a = c.args in Right a.response a.order a.cutoff a.rate (length a.sos.now)) = let a = c.args in right a.response a.order a.cutoff a.rate (length a.sos.now) (sym c.in-Done.is ∙ c.judge-judged.ensures) in
-    let t = told in ap (λ (n : ℕ). n * 5) c.sections-count.ensures ∙ sym t.count in
-    let as_long : length c.loop-i.sos ≡ length c.args.sos.now = let counted : c.sections-count.result * 5 ≡ length c.args.sos.now = let told : (let a = c.args in Right a.response a.order a.cutoff a.rate (length a.sos.now)) = let a = c.args in right a.response a.order a.cutoff a.rate (length a.sos.now) (sym c.in-Done.is ∙ c.judge-judged.ensures) in
-    let t = told in ap (λ (n : ℕ). n * 5) c.sections-count.ensures ∙ sym t.count in
-    let n = counted in
+    let told : (let a = c.args in Right a.response a.order a.cutoff a.rate (length a.sos.now)) = let a = c.args in right a.response a.order a.cutoff a.rate (length a.sos.now) (sym c.in-Done.is ∙ c.judge-judged.ensures) in
+    let counted : c.sections-count.result * 5 ≡ length c.args.sos.now = let t = told in ap (λ (n : ℕ). n * 5) c.sections-count.ensures ∙ sym t.count in
+    let as_long : length c.loop-i.sos ≡ length c.args.sos.now = let n = counted in
     ap length c.loop-i.invariant.1 ∙ length_filled _ _ _ (omega arith) in
     let n = counted in
     let l = as_long in
@@ -52,15 +49,15 @@ put_section-requires c =
 
 pub overflow_step-i : goal.overflow_step-i
 overflow_step-i c =
-    let few : c.sections-count.result ≤ 4 = let told : (let a = c.args in Right a.response a.order a.cutoff a.rate (length a.sos.now)) = let a = c.args in right a.response a.order a.cutoff a.rate (length a.sos.now) (sym c.in-Done.is ∙ c.judge-judged.ensures) in
-    let o = told.taken in
+    let told : (let a = c.args in Right a.response a.order a.cutoff a.rate (length a.sos.now)) = let a = c.args in right a.response a.order a.cutoff a.rate (length a.sos.now) (sym c.in-Done.is ∙ c.judge-judged.ensures) in
+    let few : c.sections-count.result ≤ 4 = let o = told.taken in
     omega arith in
     let n = few in omega arith
 
 pub loop-i-preserved : goal.loop-i-preserved
 loop-i-preserved c =
-    let counted : c.sections-count.result * 5 ≡ length c.args.sos.now = let told : (let a = c.args in Right a.response a.order a.cutoff a.rate (length a.sos.now)) = let a = c.args in right a.response a.order a.cutoff a.rate (length a.sos.now) (sym c.in-Done.is ∙ c.judge-judged.ensures) in
-    let t = told in ap (λ (n : ℕ). n * 5) c.sections-count.ensures ∙ sym t.count in
+    let told : (let a = c.args in Right a.response a.order a.cutoff a.rate (length a.sos.now)) = let a = c.args in right a.response a.order a.cutoff a.rate (length a.sos.now) (sym c.in-Done.is ∙ c.judge-judged.ensures) in
+    let counted : c.sections-count.result * 5 ≡ length c.args.sos.now = let t = told in ap (λ (n : ℕ). n * 5) c.sections-count.ensures ∙ sym t.count in
     let a = c.args in
     let n = counted in
     let f = coef_at a.response a.order a.cutoff a.rate in (
@@ -73,17 +70,16 @@ loop-i-preserved c =
 
 pub shape_of-sos : goal.shape_of-sos
 shape_of-sos c =
-    let as_long : length c.loop-i.sos ≡ length c.args.sos.now = let counted : c.sections-count.result * 5 ≡ length c.args.sos.now = let told : (let a = c.args in Right a.response a.order a.cutoff a.rate (length a.sos.now)) = let a = c.args in right a.response a.order a.cutoff a.rate (length a.sos.now) (sym c.in-Done.is ∙ c.judge-judged.ensures) in
-    let t = told in ap (λ (n : ℕ). n * 5) c.sections-count.ensures ∙ sym t.count in
-    let n = counted in
+    let told : (let a = c.args in Right a.response a.order a.cutoff a.rate (length a.sos.now)) = let a = c.args in right a.response a.order a.cutoff a.rate (length a.sos.now) (sym c.in-Done.is ∙ c.judge-judged.ensures) in
+    let counted : c.sections-count.result * 5 ≡ length c.args.sos.now = let t = told in ap (λ (n : ℕ). n * 5) c.sections-count.ensures ∙ sym t.count in
+    let as_long : length c.loop-i.sos ≡ length c.args.sos.now = let n = counted in
     ap length c.loop-i.invariant.1 ∙ length_filled _ _ _ (omega arith) in
     as_long
 
 pub returns-after-loop-i : goal.returns-after-loop-i
 returns-after-loop-i c =
     let told : (let a = c.args in Right a.response a.order a.cutoff a.rate (length a.sos.now)) = let a = c.args in right a.response a.order a.cutoff a.rate (length a.sos.now) (sym c.in-Done.is ∙ c.judge-judged.ensures) in
-    let counted : c.sections-count.result * 5 ≡ length c.args.sos.now = let told : (let a = c.args in Right a.response a.order a.cutoff a.rate (length a.sos.now)) = let a = c.args in right a.response a.order a.cutoff a.rate (length a.sos.now) (sym c.in-Done.is ∙ c.judge-judged.ensures) in
-    let t = told in ap (λ (n : ℕ). n * 5) c.sections-count.ensures ∙ sym t.count in
+    let counted : c.sections-count.result * 5 ≡ length c.args.sos.now = let t = told in ap (λ (n : ℕ). n * 5) c.sections-count.ensures ∙ sym t.count in
     let a = c.args in
     let t = told in
     let m = counted in

@@ -36,8 +36,7 @@ pub returns-then-z-y : goal.returns-then-z-y
 unfolding of_bits neg
 returns-then-z-y c =
     let cut : c.truncating_f64_to_u64-t-then-x-4.result ≡ to_unsigned 64 (neg c.args.x) = c.truncating_f64_to_u64-t-then-x-4.ensures in
-    let whole : c.nearest_u64_to_f64-z.result ≡ of_int binary64 (pos (to_unsigned 64 (neg c.args.x))) = let cut : c.truncating_f64_to_u64-t-then-x-4.result ≡ to_unsigned 64 (neg c.args.x) = c.truncating_f64_to_u64-t-then-x-4.ensures in
-    c.nearest_u64_to_f64-z.ensures ∙ ap (λ (t : ℕ). of_int binary64 (pos t)) cut in
+    let whole : c.nearest_u64_to_f64-z.result ≡ of_int binary64 (pos (to_unsigned 64 (neg c.args.x))) = c.nearest_u64_to_f64-z.ensures ∙ ap (λ (t : ℕ). of_int binary64 (pos t)) cut in
     let x = c.args.x in
     ap neg (c.nearest_u64_to_f64-w.ensures ∙ ap (λ (t : ℕ). of_int binary64 (pos (t + 1))) cut)
     ∙ neg_frac x c.if-x-3.true c.if-x-4.true (subst (λ (w : Float). lt w (neg x) ≡ true) whole c.if-z-y.true)
@@ -46,8 +45,8 @@ pub returns-else-z-y : goal.returns-else-z-y
 unfolding of_bits neg
 returns-else-z-y c =
     let held : T (fits binary64 c.args.x) = subst T (sym c.well_formed.0.1) tt in
-    let whole : c.nearest_u64_to_f64-z.result ≡ of_int binary64 (pos (to_unsigned 64 (neg c.args.x))) = let cut : c.truncating_f64_to_u64-t-then-x-4.result ≡ to_unsigned 64 (neg c.args.x) = c.truncating_f64_to_u64-t-then-x-4.ensures in
-    c.nearest_u64_to_f64-z.ensures ∙ ap (λ (t : ℕ). of_int binary64 (pos t)) cut in
+    let cut : c.truncating_f64_to_u64-t-then-x-4.result ≡ to_unsigned 64 (neg c.args.x) = c.truncating_f64_to_u64-t-then-x-4.ensures in
+    let whole : c.nearest_u64_to_f64-z.result ≡ of_int binary64 (pos (to_unsigned 64 (neg c.args.x))) = c.nearest_u64_to_f64-z.ensures ∙ ap (λ (t : ℕ). of_int binary64 (pos t)) cut in
     neg_whole c.args.x c.if-x-3.true c.if-x-4.true held (subst (λ (w : Float). lt w (neg c.args.x) ≡ false) whole c.if-z-y.false)
 
 pub returns-else-x-4 : goal.returns-else-x-4

@@ -1,0 +1,14 @@
+-- `c_formats::convert::bits_at` meets its contract. Assumes nothing.
+use mathlib.Core.Path.{ap, ◌∙◌}
+use Prim.Native.Nat.{ℕ, ◌*◌}
+use native.Mathlib.Omega.{arith}
+use borrow.Author.Rules.{rules}
+use lib.Ieee.{binary64, of_bits}
+use Rattle.wire.specs.Read.{eight}
+use Rattle.c_formats.proofs.convert.bits_at.Goals as goal
+
+pub returns : goal.returns
+returns c =
+    let a = c.args in
+    let at = 8 * a.i in
+    ap (λ (k : ℕ). of_bits binary64 k) (c.join.ensures ∙ eight a.src.now at (omega arith))

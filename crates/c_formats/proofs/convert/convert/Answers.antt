@@ -1,0 +1,50 @@
+-- `c_formats::convert::convert` meets its contract: what comes of the lengths, and then of the elements. Assumes
+-- nothing.
+use mathlib.Core.Path.{◌≡◌, refl, sym, ap, ◌∙◌, subst}
+use Prim.Native.Nat.{ℕ, ◌/◌, ◌<◌}
+use borrow.Author.Rules.{rules}
+use lib.ListN.{length}
+use lib.Ieee.{of_int, of_bits}
+use Rattle.verdict.specs.Reports.{done_report}
+use Rattle.c_formats.specs.Formats.{width_of}
+use Rattle.c_formats.specs.FormatLaws.{wide}
+use Rattle.c_formats.specs.Conversions.{lengths_of}
+use Rattle.c_formats.specs.ConversionLaws.{right_lengths, converts}
+use Rattle.c_formats.proofs.convert.convert.Goals as goal
+
+pub judge_lengths-lengths-requires : goal.judge_lengths-lengths-requires
+judge_lengths-lengths-requires c = record { wide_low = subst (λ (w : ℕ). 0 < w) (sym c.width.ensures) (wide c.args.format); group_low = c.requires }
+
+pub put_all-converted-requires : goal.put_all-converted-requires
+put_all-converted-requires c =
+    let judged : (let a = c.args in
+    c.judge_lengths-lengths.result ≡ lengths_of (width_of a.format) a.group (length a.src.now) (length a.out.now)) = let a = c.args in
+    c.judge_lengths-lengths.ensures ∙ ap (λ (w : ℕ). lengths_of w a.group (length a.src.now) (length a.out.now)) c.width.ensures in
+    let both_of = let a = c.args in
+    right_lengths (width_of a.format) a.group (length a.src.now) (length a.out.now) (sym judged ∙ c.in-Done.is) in record { whole = both_of.0; room = both_of.1 }
+
+pub returns-in-Done-converted : goal.returns-in-Done-converted
+unfolding of_int of_bits
+returns-in-Done-converted c =
+    let judged : (let a = c.args in
+    c.judge_lengths-lengths.result ≡ lengths_of (width_of a.format) a.group (length a.src.now) (length a.out.now)) = let a = c.args in
+    c.judge_lengths-lengths.ensures ∙ ap (λ (w : ℕ). lengths_of w a.group (length a.src.now) (length a.out.now)) c.width.ensures in
+    let a = c.args in
+    converts (sym judged ∙ c.in-Done.is)
+    (c.accepted.ensures ∙ ap (done_report (length a.src.now / 8)) (sym c.in-Done-converted.is ∙ c.put_all-converted.ensures.answer)) c.put_all-converted.ensures.buffer
+
+pub returns-in-Refused-converted : goal.returns-in-Refused-converted
+returns-in-Refused-converted c =
+    let judged : (let a = c.args in
+    c.judge_lengths-lengths.result ≡ lengths_of (width_of a.format) a.group (length a.src.now) (length a.out.now)) = let a = c.args in
+    c.judge_lengths-lengths.ensures ∙ ap (λ (w : ℕ). lengths_of w a.group (length a.src.now) (length a.out.now)) c.width.ensures in
+    let a = c.args in
+    converts (sym judged ∙ c.in-Done.is)
+    (c.refused.ensures ∙ ap (done_report (length a.src.now / 8)) (sym c.in-Refused-converted.is ∙ c.put_all-converted.ensures.answer)) c.put_all-converted.ensures.buffer
+
+pub returns-in-Refused : goal.returns-in-Refused
+returns-in-Refused c =
+    let judged : (let a = c.args in
+    c.judge_lengths-lengths.result ≡ lengths_of (width_of a.format) a.group (length a.src.now) (length a.out.now)) = let a = c.args in
+    c.judge_lengths-lengths.ensures ∙ ap (λ (w : ℕ). lengths_of w a.group (length a.src.now) (length a.out.now)) c.width.ensures in
+    converts (sym judged ∙ c.in-Refused.is) c.refused-in-Refused.ensures refl

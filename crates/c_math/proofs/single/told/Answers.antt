@@ -1,0 +1,18 @@
+-- `c_math::single::told` meets its contract: the number that it is told of has 16 bits. Assumes nothing.
+use mathlib.Core.Path.{sym, ap, ◌∙◌}
+use mir.Syntax.{w16}
+use mir.ValLaws.{to_z-of_z}
+use lib.IntN.{ℤ}
+use lib.Ieee.{binary64, of_int}
+use borrow.Author.Rules.{rules}
+use Rattle.verdict.specs.Report.{accepted_of}
+use Rattle.c_math.specs.Reports.{coded_report}
+use Rattle.c_math.proofs.single.told.Goals as goal
+
+pub returns-in-Number : goal.returns-in-Number
+returns-in-Number c =
+    let held = to_z-of_z w16 c.in-Number.q (record { sfits = c.in-Number.known_told-1-own.given.0.1 }) in
+    c.accepted.ensures ∙ ap (λ (z : ℤ). accepted_of 0 (of_int binary64 z)) held ∙ ap coded_report (sym c.in-Number.is)
+
+pub returns-in-Refused : goal.returns-in-Refused
+returns-in-Refused c = c.refused.ensures ∙ ap coded_report (sym c.in-Refused.is)

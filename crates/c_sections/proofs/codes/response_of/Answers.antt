@@ -1,0 +1,36 @@
+-- `c_sections::codes::response_of` meets its contract, a code at a time. Assumes nothing.
+use mathlib.Core.Path.{◌≡◌, refl}
+use Prim.Native.Nat.{ℕ, zero, suc, ◌<◌}
+use native.Mathlib.Omega.{arith}
+use Rattle.c_sections.specs.Codes.{response_of}
+use Rattle.c_sections.specs.declared.codes.Coded.TheVariants.{Unknown}
+use Rattle.c_sections.proofs.codes.response_of.Goals as goal
+
+other : (code : ℕ) → 3 < code → Unknown ≡ response_of code
+unfolding response_of
+other zero h = absurd (omega arith)
+other (suc zero) h = absurd (omega arith)
+other (suc (suc zero)) h = absurd (omega arith)
+other (suc (suc (suc zero))) h = absurd (omega arith)
+other (suc (suc (suc (suc code)))) h = refl
+
+pub returns-in-0 : goal.returns-in-0
+unfolding response_of
+returns-in-0 c = rw c.in-0.is
+
+pub returns-in-1 : goal.returns-in-1
+unfolding response_of
+returns-in-1 c = rw c.in-1.is
+
+pub returns-in-2 : goal.returns-in-2
+unfolding response_of
+returns-in-2 c = rw c.in-2.is
+
+pub returns-in-3 : goal.returns-in-3
+unfolding response_of
+returns-in-3 c = rw c.in-3.is
+
+pub returns-in_default : goal.returns-in_default
+returns-in_default c =
+    let rest = c.in_default.in_default-own.rest in
+    other c.args.code (omega (arith, rest.1, rest.0.1, rest.0.0.1, rest.0.0.0.1))

@@ -1,0 +1,28 @@
+-- `ticket_card::reader::unread` meets its contract. Assumes nothing.
+use mathlib.Core.Path.{◌≡◌, sym, ap, ◌∙◌}
+use Rattle.ticket_card.specs.declared.Reading.{Reading}
+use Rattle.ticket_card.specs.declared.Reading.TheVariants.{Read, Refused}
+use Rattle.ticket_card.specs.Card.{read_of, taken_of}
+use lib.ListN.{drop}
+use borrow.Author.Rules.{part_to_end}
+use Rattle.ticket_card.specs.Readings.{read_there}
+use borrow.Author.Rules.{rules}
+use Rattle.ticket_card.proofs.reader.unread.Goals as goal
+
+pub slice_bounds-result-count : goal.slice_bounds-result-count
+slice_bounds-result-count c = read_there c.args.src.now c.in-Read.field-0 c.in-Read.taken (sym c.read.ensures ∙ c.in-Read.is)
+
+pub slice_bounds-result-start : goal.slice_bounds-result-start
+slice_bounds-result-start c = read_there c.args.src.now c.in-Read.field-0 c.in-Read.taken (sym c.read.ensures ∙ c.in-Read.is)
+
+pub returns-in-Read : goal.returns-in-Read
+returns-in-Read c =
+    let d = c.args.src.now in
+    let e : read_of d ≡ Read c.in-Read.field-0 c.in-Read.taken = sym c.read.ensures ∙ c.in-Read.is in
+    part_to_end d c.in-Read.taken ∙ ap (λ (r : Reading). drop (taken_of r) d) (sym e)
+
+pub returns-in-Refused : goal.returns-in-Refused
+returns-in-Refused c =
+    let d = c.args.src.now in
+    let e : read_of d ≡ Refused c.in-Refused.field-0 = sym c.read.ensures ∙ c.in-Refused.is in
+    ap (λ (r : Reading). drop (taken_of r) d) (sym e)

@@ -1,0 +1,40 @@
+-- `ticket_slices::gaussian::gaussian` meets its contract. The loop's invariant: the taps so far stand at the front.
+-- Assumes nothing.
+use mathlib.Core.Path.{◌≡◌, refl, sym, ap, ◌∙◌}
+use Prim.Native.Nat.{◌≤◌, ◌-◌}
+use native.Mathlib.Omega.{arith}
+use borrow.Author.Rules.{rules, scaled_Fits}
+use lib.ListN.{length}
+use Rattle.laws.specs.Filled.{filled, fill_none, fill_more, fill_all, length_filled}
+use Rattle.verdict.specs.OutcomeLaws.{fills, leaves}
+use Rattle.fir_gaussian.specs.Gaussian.{tap_of, outcome_of}
+use Rattle.ticket_slices.proofs.gaussian.gaussian.Goals as goal
+
+pub slice_bounds-fitted-end : goal.slice_bounds-fitted-end
+slice_bounds-fitted-end c = refl
+
+pub loop-i-init : goal.loop-i-init
+loop-i-init c = (omega arith, fill_none _ _)
+
+pub offset_bounds-taps-i : goal.offset_bounds-taps-i
+offset_bounds-taps-i c = scaled_Fits c.loop-i.i (length c.args.taps.now) 8 (omega arith) c.well_formed.1.1.1.0.1
+
+pub bounds-taps-i : goal.bounds-taps-i
+bounds-taps-i c =
+    let e : length c.loop-i.taps ≡ length c.args.taps.now = ap length c.loop-i.invariant.1 ∙ length_filled _ _ _ (omega arith) in
+    omega arith
+
+pub loop-i-preserved : goal.loop-i-preserved
+loop-i-preserved c = (omega arith, cc (fill_more c.loop-i.i (tap_of c.in-Ready.g) c.args.taps.now (omega arith)))
+
+pub shape_of-taps : goal.shape_of-taps
+shape_of-taps c = ap length c.loop-i.invariant.1 ∙ length_filled _ _ _ (omega arith)
+
+pub returns-after-loop-i : goal.returns-after-loop-i
+returns-after-loop-i c =
+    let e : c.loop-i.i ≡ length c.args.taps.now = omega arith in
+    let k = fill_all c.loop-i.i (tap_of c.in-Ready.g) c.args.taps.now (omega arith) in
+    fills (ap outcome_of (sym c.fitted-designed.ensures.is ∙ c.in-Ready.is)) cc
+
+pub returns-in-Refused : goal.returns-in-Refused
+returns-in-Refused c = leaves c.in-Refused.why (ap outcome_of (sym c.fitted-designed.ensures.is ∙ c.in-Refused.is))

@@ -1,0 +1,37 @@
+-- `ticket_slices::half_band::halfband_taps` meets its contract: it fills a tap at a time, which agrees with the
+-- definition's buffer. The loop's invariant: the taps so far stand at the front. Assumes nothing.
+use mathlib.Core.Path.{◌≡◌, sym, ap, ◌∙◌}
+use Prim.Native.Nat.{◌≤◌, ◌-◌}
+use native.Mathlib.Omega.{arith}
+use borrow.Author.Rules.{rules, scaled_Fits}
+use lib.ListN.{length}
+use Rattle.laws.specs.Filled.{filled, fill_none, fill_more, fill_all, length_filled}
+use Rattle.fir_halfband.specs.Halfband.{tap_of}
+use Rattle.ticket_slices.specs.Agree.{fills, leaves}
+use Rattle.ticket_slices.proofs.half_band.halfband_taps.Goals as goal
+
+pub loop-k-init : goal.loop-k-init
+loop-k-init c = (omega arith, fill_none _ _)
+
+pub offset_bounds-taps-k : goal.offset_bounds-taps-k
+offset_bounds-taps-k c = scaled_Fits c.loop-k.k (length c.args.taps.now) 8 (omega arith) c.well_formed.1.0.1
+
+pub bounds-taps-k : goal.bounds-taps-k
+bounds-taps-k c =
+    let e : length c.loop-k.taps ≡ length c.args.taps.now = ap length c.loop-k.invariant.1 ∙ length_filled _ _ _ (omega arith) in
+    omega arith
+
+pub loop-k-preserved : goal.loop-k-preserved
+loop-k-preserved c = (omega arith, cc (fill_more c.loop-k.k (tap_of c.in-Ready.d) c.args.taps.now (omega arith)))
+
+pub shape_of-taps : goal.shape_of-taps
+shape_of-taps c = ap length c.loop-k.invariant.1 ∙ length_filled _ _ _ (omega arith)
+
+pub returns-after-loop-k : goal.returns-after-loop-k
+returns-after-loop-k c =
+    let e : c.loop-k.k ≡ length c.args.taps.now = omega arith in
+    let k = fill_all c.loop-k.k (tap_of c.in-Ready.d) c.args.taps.now (omega arith) in
+    fills c.args.beta c.args.taps.now c.in-Ready.d c.loop-k.taps (sym c.new-designed.ensures ∙ c.in-Ready.is) cc
+
+pub returns-in-Refused : goal.returns-in-Refused
+returns-in-Refused c = leaves c.args.beta c.args.taps.now c.in-Refused.why (sym c.new-designed.ensures ∙ c.in-Refused.is)

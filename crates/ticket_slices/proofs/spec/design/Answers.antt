@@ -1,0 +1,11 @@
+-- `ticket_slices::spec::design` meets its contract. Assumes nothing.
+use mathlib.Core.Path.{refl}
+use Rattle.fir_lowpass.specs.LowpassLaws.{fills_as}
+use borrow.Author.Rules.{rules}
+use Rattle.ticket_slices.proofs.spec.design.Goals as goal
+
+pub slice_bounds-spec_prepare-end : goal.slice_bounds-spec_prepare-end
+slice_bounds-spec_prepare-end c = refl
+
+pub returns : goal.returns
+returns c = fills_as c.spec_prepare-designed.ensures.is c.finish.ensures
