@@ -9,7 +9,7 @@ use Rattle.verdict.specs.Numbers.{bad_code}
 use Rattle.verdict.specs.declared.Refusal.{Refusal}
 use Rattle.verdict.specs.declared.Refusal.TheVariants.{Plain, Length}
 use Rattle.wire.specs.Writes.{Room}
-use Rattle.wire.specs.WritesLaws.{room, leaves}
+use Rattle.wire.proofs.WritesLaws.{room, leaves}
 use Rattle.fir_sinc.specs.declared.window.Window.{Window}
 use Rattle.fir_sinc.specs.declared.window.Window.TheVariants.{Kaiser}
 use Rattle.fir_lowpass.specs.Lowpass.{lowpass_with, lowpass_of, outcome_of}

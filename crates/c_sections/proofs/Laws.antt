@@ -22,7 +22,7 @@ use Rattle.verdict.specs.declared.Verdict.TheVariants.{Done}
 use Rattle.iir_butterworth.specs.Butterworth.{coef_at, butterworth_of}
 use Rattle.iir_butterworth.specs.SectionLaws.{Right}
 use Rattle.wire.specs.Writes.{Writes}
-use Rattle.wire.specs.WritesLaws.{leaves, fills, writes_same}
+use Rattle.wire.proofs.WritesLaws.{leaves, fills, writes_same}
 use Rattle.c_sections.specs.Numbers.{numbers_of}
 
 -- ---- a buffer of len bytes where n are taken

@@ -10,7 +10,7 @@ use Rattle.verdict.specs.Outcome as Outcome
 use Rattle.iir_butterworth.specs.EvenOrders.{even_of, even_kept}
 use Rattle.wire.specs.Bytes.{float_bytes}
 use Rattle.wire.specs.Writes.{whole_taps, Writes}
-use Rattle.wire.specs.WritesLaws.{writes_same}
+use Rattle.wire.proofs.WritesLaws.{writes_same}
 use Rattle.c_sections.specs.Numbers.{butterworth_bytes}
 use Rattle.c_sections.specs.declared.codes.Coded.{Coded}
 use Rattle.c_sections.specs.declared.codes.Coded.TheVariants.{Known, Unknown}

@@ -15,7 +15,7 @@ use Rattle.verdict.specs.declared.Verdict.TheVariants.{Done, Refused}
 use Rattle.verdict.specs.declared.Report.{Report}
 use Rattle.verdict.specs.Report.{report_of, accepted_of}
 use Rattle.wire.specs.Writes.{Writes}
-use Rattle.wire.specs.WritesLaws.{leaves, fills}
+use Rattle.wire.proofs.WritesLaws.{leaves, fills}
 use Rattle.win_sampled.specs.Shapes.{norm_of, divisor_of, sample_at, judgement_of, window_at}
 use Rattle.win_sampled.specs.declared.shape.Shape.{Shape}
 use Rattle.win_sampled.specs.declared.shape.Symmetry.{Symmetry}

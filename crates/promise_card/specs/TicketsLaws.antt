@@ -11,7 +11,7 @@ use Rattle.verdict.specs.declared.Refusal.TheVariants as Refusal
 use Rattle.verdict.specs.declared.Report.{Report}
 use Rattle.wire.specs.Bytes.{float_bytes}
 use Rattle.wire.specs.Writes.{Writes, whole_taps}
-use Rattle.wire.specs.WritesLaws.{writes_same}
+use Rattle.wire.proofs.WritesLaws.{writes_same}
 use Rattle.fir_gaussian.specs.Gaussian as Gaussian
 use Rattle.fir_rrc.specs.Rrc as Rrc
 use Rattle.fir_channelizer.specs.Channelizer as Channelizer

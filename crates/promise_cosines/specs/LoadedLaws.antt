@@ -20,7 +20,7 @@ use Rattle.verdict.specs.declared.Verdict.{Verdict}
 use Rattle.verdict.specs.declared.Verdict.TheVariants as Verdict
 use Rattle.wire.specs.Bytes.{float_bytes}
 use Rattle.wire.specs.Writes.{Writes}
-use Rattle.wire.specs.WritesLaws.{writes_agreed}
+use Rattle.wire.proofs.WritesLaws.{writes_agreed}
 use Rattle.math_trig.specs.Trig.{cos_of}
 use Rattle.win_shapes.specs.Windows.{angle, hann_at, hamming_at, blackman_at, cosines_at}
 use Rattle.win_shapes.specs.declared.cosines.Cosines.{Cosines}

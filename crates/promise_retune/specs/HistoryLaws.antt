@@ -11,7 +11,7 @@ use Rattle.verdict.specs.declared.Refusal.TheVariants.{Plain, Length}
 use Rattle.verdict.specs.declared.Report.{Report}
 use Rattle.wire.specs.Bytes.{float_bytes}
 use Rattle.wire.specs.Writes.{written}
-use Rattle.wire.specs.WritesLaws.{writes_same}
+use Rattle.wire.proofs.WritesLaws.{writes_same}
 use Rattle.fir_sinc.specs.Windows.{norm_of}
 use Rattle.fir_sinc.specs.declared.window.Window.{Window}
 use Rattle.fir_sinc.specs.declared.window.Window.TheVariants.{Hann, Hamming, Blackman, Kaiser, Cosines}

@@ -1,2 +1,3 @@
 -- Laws that several proofs of this crate cite, and no other crate.
 mod Signed
+pub mod WritesLaws

@@ -3,5 +3,4 @@ pub mod Laws
 pub mod Read
 pub mod Held
 pub mod Writes
-pub mod WritesLaws
 pub mod WrittenPrefix

@@ -7,7 +7,7 @@ use lib.ListN.{length}
 use Rattle.verdict.specs.Outcome.{Outcome}
 use Rattle.iir_butterworth.specs.Butterworth.{butterworth_of}
 use Rattle.iir_biquad.specs.declared.biquad.Response.{Response}
-use Rattle.wire.specs.WritesLaws.{leaves, writes_same, leaves_part, writes_whole}
+use Rattle.wire.proofs.WritesLaws.{leaves, writes_same, leaves_part, writes_whole}
 use Rattle.c_sections.specs.Numbers.{butterworth_bytes}
 use Rattle.c_sections.specs.declared.codes.Coded.{Coded}
 use Rattle.c_sections.proofs.cascade.pel_butterworth_sos.Goals as goal

@@ -11,7 +11,7 @@ use lib.Ieee.{Float}
 use Rattle.laws.specs.Filled.{tabulate, length_tabulate}
 use Rattle.iir_butterworth.specs.Butterworth.{coef_at}
 use Rattle.iir_butterworth.specs.SectionLaws.{Right, right, turned}
-use Rattle.wire.specs.WritesLaws.{leaves}
+use Rattle.wire.proofs.WritesLaws.{leaves}
 use Rattle.c_sections.proofs.Laws.{listed, writes_listed}
 use Rattle.c_sections.proofs.cascade.write_cascade.Goals as goal
 

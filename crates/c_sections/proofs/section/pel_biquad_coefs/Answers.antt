@@ -8,7 +8,7 @@ use Rattle.verdict.specs.Outcome.{Outcome}
 use Rattle.iir_biquad.specs.Biquad.{biquad_of}
 use Rattle.iir_biquad.specs.declared.biquad.Response.{Response}
 use Rattle.iir_biquad.specs.declared.biquad.Biquad.{Biquad}
-use Rattle.wire.specs.WritesLaws.{leaves, writes_same}
+use Rattle.wire.proofs.WritesLaws.{leaves, writes_same}
 use Rattle.c_sections.specs.Numbers.{numbers_of, biquad_bytes}
 use Rattle.c_sections.proofs.Laws.{leaves_other, writes_exact}
 use Rattle.c_sections.specs.declared.codes.Coded.{Coded}

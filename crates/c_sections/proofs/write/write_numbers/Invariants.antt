@@ -10,7 +10,7 @@ use Rattle.laws.specs.Chunks.{chunks, chunked}
 use Rattle.wire.specs.Laws.{put_none, put_more, put_length, put_all}
 use Rattle.wire.specs.Bytes.{float_bytes}
 use Rattle.verdict.specs.declared.Verdict.{Verdict}
-use Rattle.wire.specs.WritesLaws.{leaves, fills}
+use Rattle.wire.proofs.WritesLaws.{leaves, fills}
 use Rattle.c_sections.specs.Numbers.{numbers_of}
 use Rattle.c_sections.proofs.write.write_numbers.Given as goal
 

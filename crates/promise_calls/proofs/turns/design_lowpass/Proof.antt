@@ -1,7 +1,7 @@
 -- `promise_calls::turns::design_lowpass` meets its contract: what its export ensures, by demands 1 and 3, and what is promised of a
 -- kept record. Assumes nothing.
 use Rattle.ticket_codes.specs.Codes.{window_of}
-use Rattle.wire.specs.WritesLaws.{writes_same}
+use Rattle.wire.proofs.WritesLaws.{writes_same}
 use Rattle.promise_refusals.specs.Exports.{lowpass_bytes_lem, design_lowpass}
 use Rattle.promise_refusals.specs.Kept.{filled_or_kept}
 use Rattle.promise_retune.specs.HistoryLaws.{as_lowpass, begins}

@@ -1,0 +1,13 @@
+-- `c_card::reading::pel_read_ticket` meets its contract: what `read` finds, told. Assumes nothing.
+use mathlib.Core.Path.{sym, ap, ◌∙◌}
+use lib.Ieee.{of_int, of_bits}
+use Rattle.c_card.specs.Cards.{told_of}
+use borrow.Author.Rules.{rules}
+use Rattle.c_card.proofs.reading.pel_read_ticket.Goals as goal
+
+pub returns-in-Read : goal.returns-in-Read
+unfolding of_int of_bits
+returns-in-Read c = rw (c.accepted-report.ensures, c.numbers_of-numbers.ensures) (ap told_of (sym c.in-Read.is ∙ c.read-reading.ensures))
+
+pub returns-in-Refused : goal.returns-in-Refused
+returns-in-Refused c = rw c.refused-report.ensures (ap told_of (sym c.in-Refused.is ∙ c.read-reading.ensures))

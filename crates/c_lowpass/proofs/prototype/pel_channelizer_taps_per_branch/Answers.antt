@@ -1,0 +1,8 @@
+-- `c_lowpass::prototype::pel_channelizer_taps_per_branch` meets its contract. Assumes nothing.
+use mathlib.Core.Path.{ap, ◌∙◌}
+use borrow.Author.Rules.{rules}
+use Rattle.verdict.specs.Reports.{length_report}
+use Rattle.c_lowpass.proofs.prototype.pel_channelizer_taps_per_branch.Goals as goal
+
+pub returns : goal.returns
+returns c = c.told_length.ensures ∙ ap length_report c.channelizer_taps_per_branch.ensures

@@ -1,0 +1,10 @@
+-- `c_lowpass::spec::pel_spec_lowpass` meets its contract. Assumes nothing.
+use mathlib.Core.Path.{ap, ◌∙◌}
+use borrow.Author.Rules.{rules}
+use Rattle.fir_lowpass.specs.Lowpass.{outcome_of}
+use Rattle.fir_lowpass.specs.declared.lowpass.Designed.{Designed}
+use Rattle.verdict.specs.Reports.{outcome_report}
+use Rattle.c_lowpass.proofs.spec.pel_spec_lowpass.Goals as goal
+
+pub returns : goal.returns
+returns c = c.told_lowpass.ensures ∙ ap (λ (d : Designed). outcome_report (outcome_of d)) c.lowpass.ensures

@@ -1,0 +1,8 @@
+-- `c_lowpass::spec::pel_spec_num_taps` meets its contract. Assumes nothing.
+use mathlib.Core.Path.{ap, ◌∙◌}
+use borrow.Author.Rules.{rules}
+use Rattle.verdict.specs.Reports.{length_report}
+use Rattle.c_lowpass.proofs.spec.pel_spec_num_taps.Goals as goal
+
+pub returns : goal.returns
+returns c = c.told_length.ensures ∙ ap length_report c.num_taps.ensures

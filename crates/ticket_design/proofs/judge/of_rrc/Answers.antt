@@ -1,0 +1,9 @@
+-- `ticket_design::judge::of_rrc` meets its contract, a design and a refusal. Assumes nothing.
+use borrow.Author.Rules.{rules}
+use Rattle.ticket_design.proofs.judge.of_rrc.Goals as goal
+
+pub returns-in-Ready : goal.returns-in-Ready
+returns-in-Ready c = rw c.in-Ready.is
+
+pub returns-in-Refused : goal.returns-in-Refused
+returns-in-Refused c = rw c.in-Refused.is
