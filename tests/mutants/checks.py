@@ -23,18 +23,20 @@ class Checker:
 
     def __init__(self, root, scratch, seconds):
         self.root, self.scratch, self.seconds = root, scratch, seconds
-        self.locks, self.texts = collections.defaultdict(threading.Lock), {}
+        self.locks, self.texts, self.lower = collections.defaultdict(threading.Lock), {}, {}
         self.kit = os.path.dirname(os.path.dirname(os.path.realpath(shutil.which("rt") or "rt")))
         lines = (line.split("#")[0].split(":") for line in open(f"{root}/crates.txt"))
         self.rests_on = {line[0].split()[0]: line[1].split() for line in lines if len(line) == 2}
 
     def below(self, crate):
         """The crates of the repository that this one rests on, each once, the lowest first."""
-        found = {}
-        for need in self.rests_on[crate]:
-            if need in self.rests_on:
-                found.update(dict.fromkeys([*self.below(need), need]))
-        return list(found)
+        if crate not in self.lower:
+            found = {}
+            for need in self.rests_on[crate]:
+                if need in self.rests_on:
+                    found.update(dict.fromkeys([*self.below(need), need]))
+            self.lower[crate] = list(found)
+        return self.lower[crate]
 
     def prove(self, crates, jobs):
         """Has rt prove what is not proved yet and build what crates above need, with the work kept that a check of a
@@ -54,7 +56,8 @@ class Checker:
         with open(f"{self.kit}/WHAT", "rb") as what:
             whole.update(what.read())
         for name in [*self.below(crate), crate]:
-            whole.update(repr((name, self.rests_on[name], sorted(files_in(f"{self.root}/crates/{name}").items()))).encode())
+            files = sorted(files_in(f"{self.root}/crates/{name}").items())
+            whole.update(repr((name, self.rests_on[name], files)).encode())
         return whole.hexdigest()
 
     def check(self, crate, folder, warm=None):
@@ -65,7 +68,8 @@ class Checker:
             words += ["--extern", f"{need}={rlibs}/{need}.rlib"]
         for rlibs in (f"{self.kit}/rlibs", *(f"{self.root}/crates/{need}/out/rlib" for need in self.below(crate))):
             words += ["-L", f"dependency={rlibs}"]
-        words += ["--antt-project", f"{self.kit}/rattle/logic/antt-project.json", "--logic-built", f"{self.kit}/logic_built"]
+        words += ["--antt-project", f"{self.kit}/rattle/logic/antt-project.json"]
+        words += ["--logic-built", f"{self.kit}/logic_built"]
         words += ["--incremental", warm] if warm else []
         try:
             how = {"capture_output": True, "text": True, "timeout": self.seconds, "errors": "replace"}
@@ -76,7 +80,8 @@ class Checker:
 
     def warm(self, crate):
         """The folder that a check of the sound crate leaves, which begins with what rt kept; made once."""
-        warm, kept, sound = f"{self.scratch}/warm/{crate}", f"{self.root}/crates/{crate}/out/incremental", f"{self.scratch}/sound/{crate}"
+        warm, sound = f"{self.scratch}/warm/{crate}", f"{self.scratch}/sound/{crate}"
+        kept = f"{self.root}/crates/{crate}/out/incremental"
         with self.locks[crate]:
             if not os.path.isdir(warm):
                 if os.path.isdir(kept):
