@@ -7,11 +7,11 @@ STRICT = -std=c11 -Wall -Wextra -Werror -Iinclude
 # Under sanitizers, with lines for what they find. -Og compiles in a quarter of the time of -O1, and runs as long.
 CHECKED = -g1 -Og -fsanitize=address,undefined -fno-sanitize-recover=all
 LIB = target/lib/libpeldozkar.a
-# The crates with exports: each makes one object, and the library holds them all.
-EXPORTS = c_lowpass c_cosines c_card c_retune c_pulses c_windows c_formats c_sections c_math c_gain
-# The library depends on the files of those crates and of all that they rest on, by crates.txt, and on which files and
-# crates these are, for which the name of an empty file stands. So nothing above the exports makes it anew.
-BELOW := $(shell tools/below --files $(EXPORTS))
+# The crate that the library is made of: a static library, whose exports are all that C sees.
+STATIC = peldozkar
+# The library depends on the files of that crate and of all that it rests on, by crates.txt, and on which files and
+# crates these are, for which the name of an empty file stands. So nothing else makes it anew.
+BELOW := $(shell tools/below --files $(STATIC))
 CRATES := target/lib/crates-$(firstword $(BELOW))
 SOURCES := $(filter crates/%,$(BELOW))
 DESIGN = $(addprefix tools/,design.c card.c correct.c fields.c kinds.c forms.c words.c lists.c turns.c help.c files.c \
@@ -39,8 +39,8 @@ test:
 lib: $(LIB)
 
 # Proved and made beside the one that is there, which stays until the new one is whole.
-$(LIB): $(SOURCES) $(CRATES) tools/library tools/object
-	@CC='$(CC)' tools/library $@ $(EXPORTS)
+$(LIB): $(SOURCES) $(CRATES) tools/library
+	@CC='$(CC)' tools/library $@ $(STATIC)
 
 $(CRATES):
 	@tools/ready --prove '$(CC)'
@@ -128,5 +128,6 @@ distance:
 divisions: $(LIB)
 	CC="$(CC)" tests/divisions
 
+# What rt keeps of a crate is in the crate's out/.
 clean:
-	rm -rf target
+	rm -rf target crates/*/out

@@ -157,7 +157,8 @@ class Walk:
 
     def refusal(self, k):
         """The number of another refusal: two that the file names too, or 0."""
-        named = re.findall(r"^use verdict::(BAD_\w+);", self.source.text, re.M)
+        imports = " ".join(re.findall(r"^use verdict::[^;]*;", self.source.text, re.M))
+        named = re.findall(r"\bBAD_\w+", imports)
         for other in [name for name in named if name != self.words[k]][:2] or ["0"]:
             self.add("refusal", (k, k + 1, other))
 

@@ -1,5 +1,6 @@
 """Checks a crate with a change in it, over what a check of the sound crate left, and tells how it was refused."""
 import collections
+import hashlib
 import os
 import re
 import shutil
@@ -9,62 +10,89 @@ import time
 
 # What the prover says where the proof's names or shape no longer fit the code, which says nothing of its meaning. Any
 # other error is a goal that fails.
-PLACE = r"`tie\.Need-|not in scope|has no field|is not a field|needs a function|cannot be named"
-# What it says of a module because of an error in another.
-FOLLOWS = r"was not admitted|which is not proved"
+PLACE = r"not in scope|has no field|has no `|is not a field|needs a function|cannot be named"
+# What it says of a declaration, a file or a function because of an error in another.
+FOLLOWS = r"was not admitted|was not checked|exports no `|which is not proved"
+# An error, a goal that was left to the search and not found, a function that is not proved.
+TOLD = r": error|^error|^note: src/\S+ it is not proved|^fn \S+: (not proved|no proof)"
 PARTS = ("src", "specs", "proofs")
 
 
 class Checker:
-    """Runs the prover as `rt dev` does, on copies of a crate below a folder of its own."""
+    """Runs the prover as `rt must-fail` does, on copies of a crate below a folder of its own."""
 
     def __init__(self, root, scratch, seconds):
         self.root, self.scratch, self.seconds = root, scratch, seconds
-        self.locks, self.texts = collections.defaultdict(threading.Lock), {}
-        rt = os.path.realpath(shutil.which("rt"))
-        self.home = os.environ.get("RATTLE_HOME") or os.path.dirname(os.path.dirname(rt))
-        self.own = f"{self.home}/on/{os.uname().machine}"
-        lines = (line.split("#")[0] for line in open(f"{root}/crates.txt"))
-        self.rests_on = {line.split(":")[0].strip(): line.split(":")[1].split() for line in lines if ":" in line}
+        self.locks, self.texts, self.lower = collections.defaultdict(threading.Lock), {}, {}
+        self.kit = os.path.dirname(os.path.dirname(os.path.realpath(shutil.which("rt") or "rt")))
+        lines = (line.split("#")[0].split(":") for line in open(f"{root}/crates.txt"))
+        self.rests_on = {line[0].split()[0]: line[1].split() for line in lines if len(line) == 2}
 
-    def prove(self, crates):
-        """Has `rt check` prove what is not proved yet; its stamps say which state of a crate that was."""
-        said = subprocess.run(["rt", "check", *crates], cwd=self.root, capture_output=True, text=True)
-        if said.returncode != 0:
-            raise SystemExit(f"mutants: the crates are not proved as they stand:\n{said.stdout[-3000:]}{said.stderr}")
+    def below(self, crate):
+        """The crates of the repository that this one rests on, each once, the lowest first."""
+        if crate not in self.lower:
+            found = {}
+            for need in self.rests_on[crate]:
+                if need in self.rests_on:
+                    found.update(dict.fromkeys([*self.below(need), need]))
+            self.lower[crate] = list(found)
+        return self.lower[crate]
+
+    def prove(self, crates, jobs):
+        """Has rt prove what is not proved yet and build what crates above need, with the work kept that a check of a
+        change begins with: `rt all` takes a crate with all that it rests on."""
+        rested_on = {below for crate in crates for below in self.below(crate)}
+        for crate in crates:
+            if crate not in rested_on:
+                words = ["rt", "all", "check", "--jobs", str(jobs)]
+                said = subprocess.run(words, cwd=f"{self.root}/crates/{crate}", capture_output=True, text=True)
+                if said.returncode != 0:
+                    raise SystemExit(f"mutants: {crate} or what it rests on is not proved as it stands:\n"
+                                     f"{said.stdout[-3000:]}{said.stderr}")
 
     def state(self, crate):
-        """A hash of the crate's files and of all that it rests on, as `rt check` stamped it."""
-        with open(f"{self.root}/target/stamp/{crate}") as stamp:
-            return stamp.read().strip()
+        """A hash of the toolchain, the crate's files and those of all that it rests on."""
+        whole = hashlib.sha256()
+        with open(f"{self.kit}/WHAT", "rb") as what:
+            whole.update(what.read())
+        for name in [*self.below(crate), crate]:
+            files = sorted(files_in(f"{self.root}/crates/{name}").items())
+            whole.update(repr((name, self.rests_on[name], files)).encode())
+        return whole.hexdigest()
 
     def check(self, crate, folder, warm=None):
         """The exit status of a check of the files in `folder`, None past the limit, and what the prover says."""
-        words = [f"{self.own}/bin/rattle", "check", "--crate-name", crate, f"{folder}/src/lib.rt"]
-        words += ["--extern", f"std={self.own}/rlib/std.rlib"]
-        for need in self.rests_on[crate]:
-            base = f"{self.root}/target" if os.path.isdir(f"{self.root}/crates/{need}") else self.own
-            words += ["--extern", f"{need}={base}/rlib/{need}.rlib"]
-        words += ["-L", f"dependency={self.root}/target/rlib", "-L", f"dependency={self.own}/rlib"]
-        words += ["--antt-project", f"{self.home}/logic/antt-project.json", "--logic-built", f"{self.own}/logic-built"]
+        words = [f"{self.kit}/bin/rattle", "check", "--crate-name", crate, "src/lib.rt"]
+        for need in ("std", *self.rests_on[crate]):
+            rlibs = f"{self.root}/crates/{need}/out/rlib" if need in self.rests_on else f"{self.kit}/rlibs"
+            words += ["--extern", f"{need}={rlibs}/{need}.rlib"]
+        for rlibs in (f"{self.kit}/rlibs", *(f"{self.root}/crates/{need}/out/rlib" for need in self.below(crate))):
+            words += ["-L", f"dependency={rlibs}"]
+        words += ["--antt-project", f"{self.kit}/rattle/logic/antt-project.json"]
+        words += ["--logic-built", f"{self.kit}/logic_built"]
         words += ["--incremental", warm] if warm else []
         try:
-            run = subprocess.run(words, capture_output=True, text=True, timeout=self.seconds, errors="replace")
+            how = {"capture_output": True, "text": True, "timeout": self.seconds, "errors": "replace"}
+            run = subprocess.run(words, cwd=folder, stdin=subprocess.DEVNULL, **how)
             return run.returncode, run.stdout + run.stderr
         except subprocess.TimeoutExpired:
             return None, ""
 
     def warm(self, crate):
-        """The folder that a check of the sound crate leaves, made once for a state of the crate."""
-        warm, state = f"{self.scratch}/warm/{crate}", self.state(crate)
+        """The folder that a check of the sound crate leaves, which begins with what rt kept; made once."""
+        warm, sound = f"{self.scratch}/warm/{crate}", f"{self.scratch}/sound/{crate}"
+        kept = f"{self.root}/crates/{crate}/out/incremental"
         with self.locks[crate]:
-            if not os.path.isfile(f"{warm}.{state}"):
-                os.makedirs(warm, exist_ok=True)
-                write_files(f"{self.scratch}/sound/{crate}", self.sound(crate))
-                status, said = self.check(crate, f"{self.scratch}/sound/{crate}", warm)
+            if not os.path.isdir(warm):
+                if os.path.isdir(kept):
+                    shutil.copytree(kept, f"{warm}.new")
+                else:
+                    os.makedirs(f"{warm}.new")
+                write_files(sound, self.sound(crate))
+                status, said = self.check(crate, sound, f"{warm}.new")
                 if status != 0:
                     raise SystemExit(f"mutants: {crate} is not proved as it stands:\n{said[-3000:]}")
-                open(f"{warm}.{state}", "w").close()
+                os.rename(f"{warm}.new", warm)
         return warm
 
     def sound(self, crate):
@@ -166,7 +194,7 @@ def restore(sound, place):
 def told_errors(said):
     """The errors that do not just follow from others, with paths inside the crate."""
     lines = [re.sub(r"^\S*/(?=(src|specs|proofs)/)", "", line)[:400] for line in said.split("\n")]
-    return [line for line in lines if re.search(r": error|: no proof|^error", line) and not re.search(FOLLOWS, line)]
+    return [line for line in lines if re.search(TOLD, line) and not re.search(FOLLOWS, line)]
 
 
 def refused(errors):
@@ -177,7 +205,8 @@ def refused(errors):
 def judged(status, said):
     """How a check of one change ended, and its first errors."""
     errors = told_errors(said)
-    if status is None:
+    # 3: the prover could not tell, at a limit of its own
+    if status is None or status == 3:
         return "timeout", []
     if status == 0 and "logic=proved" in said:
         return "survived", []
@@ -191,6 +220,5 @@ def judged_in(status, said, change):
     if status != 1 or "logic=not-proved" not in said:
         return None
     folder, named = "/".join(change.proof), "::".join([change.crate, *change.proof])
-    begins = (f"proofs/{folder}/Proof.antt:", f"fn {named}: no proof")
-    own = [error for error in told_errors(said) if error.startswith(begins)]
+    own = [error for error in told_errors(said) if error.startswith((f"proofs/{folder}/", f"fn {named}: "))]
     return refused(own) if own else None

@@ -47,7 +47,8 @@ class Source:
         while k < len(found):
             if self.words[k] in ("requires", "ensures", "#"):
                 promised += [found[k].start()] if self.words[k] == "ensures" else []
-                k = self.closing(k + 1)
+                # a clause may have a name, and an attribute of the whole file a `!`
+                k = self.closing(self.words.index("[" if self.words[k] == "#" else "{", k))
             elif self.words[k] in ("ghost", "use", "mod"):
                 k = self.words.index(";", k)
             else:

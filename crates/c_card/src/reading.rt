@@ -22,8 +22,7 @@ pub struct TicketRead {
 // Refused, in this order, with a ticket of zeros: 12 fewer than six bytes; 13 a kind that isn't 1 to 6; 14 a length
 // that isn't the kind's; 12 fewer bytes than the record takes; 7 a window above 3. No other field is judged. Example: a
 // half-band's record takes 22 bytes.
-#[unsafe(no_mangle)]
-pub extern "C" fn pel_read_ticket(src: &[u8]) -> TicketRead
+pub fn pel_read_ticket(src: &[u8]) -> TicketRead
     ensures { result ≡ told_of (read_of src.now) }
 {
     let reading = read(src);
@@ -74,8 +73,7 @@ pub(crate) fn told_end(n: u64, ended: Verdict) -> Report
 
 // Reads a card record by record: how many tickets it has as the count, where it is read to its end. Refused as
 // pel_read_ticket refuses the bytes from the first place on where no record stands.
-#[unsafe(no_mangle)]
-pub extern "C" fn pel_check_card(src: &[u8]) -> CardChecked
+pub fn pel_check_card(src: &[u8]) -> CardChecked
     ensures { ChecksCard src.now result }
 {
     let checked = check(src);

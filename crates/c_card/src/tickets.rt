@@ -14,8 +14,7 @@ use verdict::Report;
 // Judges a ticket as it would be designed into a buffer of its own length: its number of taps as the count, what they
 // are divided by as the value. Refused, in this order: 13 a kind that isn't 1 to 6; 7 a low-pass with a window above 3;
 // then as its kind is without a buffer. Example: kind 3 with the bits of 8.0 and the count 31 has 31 taps.
-#[unsafe(no_mangle)]
-pub extern "C" fn pel_judge_ticket(ticket: Numbers) -> Report
+pub fn pel_judge_ticket(ticket: Numbers) -> Report
     ensures { result ≡ outcome_report (judged_for (formed_of ticket)) }
 {
     let formed = ticket_of(ticket);
@@ -29,8 +28,7 @@ pub extern "C" fn pel_judge_ticket(ticket: Numbers) -> Report
 // in this order: 13 and 7 as that; 8 a length that isn't a multiple of 8, with the length to the last whole tap and the
 // length, in bytes; 8 a low-pass's or a half-band's count that isn't the buffer's number of taps, with both; then as
 // its kind is. A refusal leaves the buffer as it came.
-#[unsafe(no_mangle)]
-pub extern "C" fn pel_design_ticket(ticket: Numbers, out: &mut [u8]) -> Report
+pub fn pel_design_ticket(ticket: Numbers, out: &mut [u8]) -> Report
     ensures { Writes float_bytes (bytes_for (formed_of ticket) (length out.old)) out.old result out.new }
 {
     let formed = ticket_of(ticket);

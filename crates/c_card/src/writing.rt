@@ -12,8 +12,7 @@ use verdict::Report;
 // a loaded one among them; 8 a buffer of another length, with the record's and its own, in bytes. Fields past the
 // kind's, and the beta of a window that takes none, aren't looked at: such a beta is written as zeros. Example: kind 3,
 // the bits of 8.0 and 31 take 22 bytes.
-#[unsafe(no_mangle)]
-pub extern "C" fn pel_write_ticket(ticket: Numbers, out: &mut [u8]) -> Report
+pub fn pel_write_ticket(ticket: Numbers, out: &mut [u8]) -> Report
     ensures { WritesTicket (formed_of ticket) out.old result out.new }
 {
     let len = out.len() as u64;

@@ -94,8 +94,7 @@ fn load_bytes(src: &[u8]) -> Loading
 // whole number and the length, in bytes; 17 with 1, 5, count where there aren't 1 to 5; 18 with −1, 1 and the first
 // number that isn't finite or whose size is above 1; 19 an exact sum that is further than 2^-40 from 1. Example: 0.5,
 // 0.5 is Hann's window, and 0.5, 0.6 is 19.
-#[unsafe(no_mangle)]
-pub extern "C" fn pel_load_cosines(src: &[u8]) -> Loaded
+pub fn pel_load_cosines(src: &[u8]) -> Loaded
     ensures { result ≡ answer_of (length src.now / 8) (load_bytes src.now) }
 {
     answer(src.len() as u64 / 8, load_bytes(src))

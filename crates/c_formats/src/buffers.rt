@@ -11,8 +11,7 @@ use verdict::Report;
 // each with the length to the last whole element and the length, in bytes; 8 a destination for another number of
 // elements, with both numbers; 11 at the first element that isn't taken, as pel_q15_tap with its index: those before it
 // are converted and the rest is as it came. An 8 leaves the destination as it came.
-#[unsafe(no_mangle)]
-pub extern "C" fn pel_to_q15(src: &[u8], out: &mut [u8]) -> Report
+pub fn pel_to_q15(src: &[u8], out: &mut [u8]) -> Report
     ensures { ConvertsBytes Q15 1 src.now out.old result out.new }
 {
     convert(Format::Q15, 1, src, &mut *out)
@@ -21,8 +20,7 @@ pub extern "C" fn pel_to_q15(src: &[u8], out: &mut [u8]) -> Report
 // Converts sections, five f64s each, to Q14 numbers, two bytes each. Refused as pel_to_q15, but for 8 before the
 // numbers of elements are compared: a source that isn't whole sections, with the number of elements to the last whole
 // one and the number; and 11 as pel_q14_from_f64, the index counted from the first number of all.
-#[unsafe(no_mangle)]
-pub extern "C" fn pel_to_q14(src: &[u8], out: &mut [u8]) -> Report
+pub fn pel_to_q14(src: &[u8], out: &mut [u8]) -> Report
     ensures { ConvertsBytes Q14 5 src.now out.old result out.new }
 {
     convert(Format::Q14, 5, src, &mut *out)
@@ -30,16 +28,14 @@ pub extern "C" fn pel_to_q14(src: &[u8], out: &mut [u8]) -> Report
 
 // Converts f64s to f32s, four bytes each: the nearest, ties to even; an infinity where it is too large, 7FC00000 for a
 // NaN. Refused with 8 as pel_to_q15, never with 11.
-#[unsafe(no_mangle)]
-pub extern "C" fn pel_to_f32(src: &[u8], out: &mut [u8]) -> Report
+pub fn pel_to_f32(src: &[u8], out: &mut [u8]) -> Report
     ensures { ConvertsBytes Single 1 src.now out.old result out.new }
 {
     convert(Format::Single, 1, src, &mut *out)
 }
 
 // The same of sections, five f64s each: refused with 8 as pel_to_q14.
-#[unsafe(no_mangle)]
-pub extern "C" fn pel_to_f32_sos(src: &[u8], out: &mut [u8]) -> Report
+pub fn pel_to_f32_sos(src: &[u8], out: &mut [u8]) -> Report
     ensures { ConvertsBytes Single 5 src.now out.old result out.new }
 {
     convert(Format::Single, 5, src, &mut *out)

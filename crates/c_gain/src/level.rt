@@ -80,8 +80,7 @@ fn gain_in(src: &[u8]) -> Gain
 // bandwidth in bins: n Σ w² / (Σ w)². Both are 0 for no samples; samples that sum to 0 give an infinite bandwidth or
 // NaN. Refused: 8 a length that isn't a multiple of 4, with the length to the last whole sample and the length, in
 // bytes. Example: the samples 0, 0.5, 1, 0.5 give 0.5 and 1.5.
-#[unsafe(no_mangle)]
-pub extern "C" fn pel_window_gain(src: &[u8]) -> GainReport
+pub fn pel_window_gain(src: &[u8]) -> GainReport
     ensures { result ≡ gain_report src.now }
 {
     let len = src.len() as u64;

@@ -22,13 +22,7 @@ use win_shapes::cosines::Cosines;
 // Refused, in this order: 1 a rate that isn't finite and positive; 2 with 0, rate/2, cutoff where cutoff/rate isn't
 // between 0 and 1/2; 6 no taps or more than 2^24; 10 a sum that is 0 or not finite. Example: (0.25, 1, any window, 1)
 // has the sum 0.5.
-#[unsafe(no_mangle)]
-pub extern "C" fn pel_lowpass_cosines_new(
-    cutoff: f64,
-    rate: f64,
-    window: Cosines,
-    taps: u64,
-) -> Report
+pub fn pel_lowpass_cosines_new(cutoff: f64, rate: f64, window: Cosines, taps: u64) -> Report
     ensures { result ≡ outcome_report (outcome_of (lowpass_coded cutoff rate (Known (Window.Cosines window)) taps)) }
 {
     told_lowpass(Lowpass::new(cutoff, rate, Window::Cosines(window), taps))
@@ -38,13 +32,7 @@ pub extern "C" fn pel_lowpass_cosines_new(
 // as pel_lowpass_cosines_new. Refused as that, and first 8 a length that isn't a multiple of 8, with the length to the
 // last whole tap and the length, in bytes. A refusal leaves the buffer as it came. A loaded Hann, Hamming or Blackman
 // window gives what pel_lowpass gives with its code. Example: (0.25, 1, any window) and 8 bytes write 1.0.
-#[unsafe(no_mangle)]
-pub extern "C" fn pel_lowpass_cosines(
-    cutoff: f64,
-    rate: f64,
-    window: Cosines,
-    out: &mut [u8],
-) -> Report
+pub fn pel_lowpass_cosines(cutoff: f64, rate: f64, window: Cosines, out: &mut [u8]) -> Report
     ensures { Writes float_bytes (lowpass_bytes cutoff rate (Known (Window.Cosines window)) (length out.old)) out.old result out.new }
 {
     let mut raws = [0.0f64; CACHED];

@@ -20,14 +20,7 @@ use verdict::{BAD_CODE, Refusal, Report};
 // cutoff/rate isn't between 0 and 1/2; 6 no taps or more than 2^24; 4 a beta that isn't finite and not negative; 16 a
 // series that hasn't settled, as at a beta above about 714, where there are more taps than one; 10 a sum that is 0 or
 // not finite. Example: (0.25, 1, 0, 0, 1) has the sum 0.5.
-#[unsafe(no_mangle)]
-pub extern "C" fn pel_lowpass_new(
-    cutoff: f64,
-    rate: f64,
-    window: u64,
-    beta: f64,
-    taps: u64,
-) -> Report
+pub fn pel_lowpass_new(cutoff: f64, rate: f64, window: u64, beta: f64, taps: u64) -> Report
     ensures { result ≡ outcome_report (outcome_of (lowpass_coded cutoff rate (window_of window beta) taps)) }
 {
     let coded = window_of(window, beta);
@@ -41,14 +34,7 @@ pub extern "C" fn pel_lowpass_new(
 // as pel_lowpass_new. Refused as that, and after 7 a length that isn't a multiple of 8: 8, with the length to the last
 // whole tap and the length, in bytes. A refusal leaves the buffer as it came. Example: (0.25, 1, 0, 0) and 8 bytes
 // write 1.0.
-#[unsafe(no_mangle)]
-pub extern "C" fn pel_lowpass(
-    cutoff: f64,
-    rate: f64,
-    window: u64,
-    beta: f64,
-    out: &mut [u8],
-) -> Report
+pub fn pel_lowpass(cutoff: f64, rate: f64, window: u64, beta: f64, out: &mut [u8]) -> Report
     ensures { Writes float_bytes (lowpass_bytes cutoff rate (window_of window beta) (length out.old)) out.old result out.new }
 {
     let coded = window_of(window, beta);

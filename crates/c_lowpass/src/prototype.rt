@@ -16,13 +16,7 @@ use verdict::{Report, told_length};
 // made odd. Refused, in this order: 6 channels that aren't a power of two from 4 to 256; 2 a passband that isn't finite
 // and positive; 2 a stopband that isn't above it and at most 1.5; 4 with 20, 120, attenuation; 3 where the estimate
 // isn't finite or is above 2^24. Example: (16, 0.5, 1, 60) has 118 taps.
-#[unsafe(no_mangle)]
-pub extern "C" fn pel_channelizer_taps(
-    channels: u64,
-    passband: f64,
-    stopband: f64,
-    attenuation: f64,
-) -> Report
+pub fn pel_channelizer_taps(channels: u64, passband: f64, stopband: f64, attenuation: f64) -> Report
     ensures { result ≡ length_report (channelizer_taps_of channels passband stopband attenuation) }
 {
     told_length(fir_channelizer::channelizer_taps(channels, passband, stopband, attenuation))
@@ -30,8 +24,7 @@ pub extern "C" fn pel_channelizer_taps(
 
 // How many taps each branch needs, as the count: taps / channels rounded up, refused as pel_channelizer_taps. Example:
 // (16, 0.5, 1, 60) has 8.
-#[unsafe(no_mangle)]
-pub extern "C" fn pel_channelizer_taps_per_branch(
+pub fn pel_channelizer_taps_per_branch(
     channels: u64,
     passband: f64,
     stopband: f64,
@@ -50,8 +43,7 @@ pub extern "C" fn pel_channelizer_taps_per_branch(
 // Judges the prototype of channels · branch taps: their number as the count, the sum that they are divided by as the
 // value. Refused, in this order: 6 the channels; 6 a branch that isn't 4 to 32 taps; 2, 2, 4 as pel_channelizer_taps;
 // then as pel_lowpass_new with the cutoff (passband + stopband)/(2 channels) at rate 1 and Kaiser's window.
-#[unsafe(no_mangle)]
-pub extern "C" fn pel_channelizer_lowpass(
+pub fn pel_channelizer_lowpass(
     channels: u64,
     branch: u64,
     passband: f64,
@@ -73,8 +65,7 @@ pub extern "C" fn pel_channelizer_lowpass(
 // pel_channelizer_lowpass. Refused, in this order: 8 a length that isn't a multiple of 8, with the length to the last
 // whole tap and the length, in bytes; as pel_channelizer_lowpass; 8 a buffer for another number of taps, with both
 // numbers of taps. A refusal leaves the buffer as it came. Example: (16, 8, 0.5, 1, 60) needs 1024 bytes.
-#[unsafe(no_mangle)]
-pub extern "C" fn pel_channelizer_prototype(
+pub fn pel_channelizer_prototype(
     channels: u64,
     branch: u64,
     passband: f64,

@@ -20,8 +20,7 @@ use verdict::{Report, told_length};
 // isn't finite or is below 8; 3 where 2 transition / rate isn't finite and positive; 3 with 0, rate, transition where
 // Kaiser's estimate is above 2^24; 9 more taps than the cap, with both. Example: (1000, 100, 60, 8000, 293) has 293
 // taps, and a cap of 292 gives 9.
-#[unsafe(no_mangle)]
-pub extern "C" fn pel_spec_num_taps(
+pub fn pel_spec_num_taps(
     cutoff: f64,
     transition: f64,
     attenuation: f64,
@@ -41,8 +40,7 @@ pub extern "C" fn pel_spec_num_taps(
 // Judges the design of as many taps as the specification needs: their number as the count, the sum that they are
 // divided by as the value. Refused as pel_spec_num_taps, and then as pel_lowpass_new with Kaiser's window. Example:
 // (1000, 100, 60, 8000, 293) has 293 taps.
-#[unsafe(no_mangle)]
-pub extern "C" fn pel_spec_lowpass(
+pub fn pel_spec_lowpass(
     cutoff: f64,
     transition: f64,
     attenuation: f64,
@@ -63,8 +61,7 @@ pub extern "C" fn pel_spec_lowpass(
 // Refused, in this order: 8 a length that isn't a multiple of 8, with the length to the last whole tap and the length,
 // in bytes; as pel_spec_num_taps; 8 a buffer for another number of taps, with both numbers of taps; as pel_lowpass_new.
 // A refusal leaves the buffer as it came. Example: (1000, 100, 60, 8000, 293) needs 2344 bytes.
-#[unsafe(no_mangle)]
-pub extern "C" fn pel_spec_design(
+pub fn pel_spec_design(
     cutoff: f64,
     transition: f64,
     attenuation: f64,

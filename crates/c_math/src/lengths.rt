@@ -12,8 +12,7 @@ use verdict::{Report, told_length};
 // Kaiser's estimate for a ripple in dB: the taps as the count, 1 to 16777217 and odd, and beta as the value. Refused: 4
 // where the ripple's size isn't finite or is below 8; 3 where 2 transition / rate isn't finite and positive; 3 with 0,
 // rate, transition where the estimate is above 2^24. Example: (60, 100, 8000) has 293 taps.
-#[unsafe(no_mangle)]
-pub extern "C" fn pel_kaiserord(ripple: f64, transition: f64, rate: f64) -> Report
+pub fn pel_kaiserord(ripple: f64, transition: f64, rate: f64) -> Report
     ensures { result ≡ order_report (order_of ripple transition rate) }
 {
     let order = fir_length::order::kaiserord(ripple, transition, rate);
@@ -25,8 +24,7 @@ pub extern "C" fn pel_kaiserord(ripple: f64, transition: f64, rate: f64) -> Repo
 
 // The taps of a half-band filter as the count, 3 to 16777219 and 3 mod 4. The arguments stand in another order than
 // pel_kaiserord's; refused as that. Example: (100, 60, 8000) has 295 taps.
-#[unsafe(no_mangle)]
-pub extern "C" fn pel_halfband_len(transition: f64, attenuation: f64, rate: f64) -> Report
+pub fn pel_halfband_len(transition: f64, attenuation: f64, rate: f64) -> Report
     ensures { result ≡ length_report (halfband_len_of transition attenuation rate) }
 {
     told_length(fir_length::order::halfband_len(transition, attenuation, rate))
@@ -34,8 +32,7 @@ pub extern "C" fn pel_halfband_len(transition: f64, attenuation: f64, rate: f64)
 
 // The half samples that a linear-phase filter of so many taps delays by, as the count: taps − 1. Refused: 6 for 0 taps.
 // Example: 128 taps delay by 127 half samples, which is 63.5 samples.
-#[unsafe(no_mangle)]
-pub extern "C" fn pel_delay(taps: u64) -> Report
+pub fn pel_delay(taps: u64) -> Report
     ensures { result ≡ delay_report (delay_of taps) }
 {
     let delayed = fir_delay::delay(taps);

@@ -8,8 +8,7 @@ use fmt_q15::q15::Coded;
 use verdict::Report;
 
 // floor(32768 x + 0.5), held to −32768 and 32767; 0 for a NaN.
-#[unsafe(no_mangle)]
-pub extern "C" fn pel_q15_from_f64(x: f64) -> i16
+pub fn pel_q15_from_f64(x: f64) -> i16
     ensures { result ≡ q15_of x }
 {
     fmt_q15::q15::q15_from_f64(x)
@@ -27,8 +26,7 @@ fn told(c: Coded) -> Report
 
 // One tap as a Q15 number, as the value. Refused: 11 with the index 0 and −limit, limit, tap where its size is above
 // the limit, (1 − 1/32768) · 1.01, or it is a NaN. Example: 1 gives 32767, 1.01 is refused.
-#[unsafe(no_mangle)]
-pub extern "C" fn pel_q15_tap(tap: f64) -> Report
+pub fn pel_q15_tap(tap: f64) -> Report
     ensures { result ≡ coded_report (q15_tap_of 0 tap) }
 {
     told(fmt_q15::q15::q15_tap(0, tap))
@@ -37,8 +35,7 @@ pub extern "C" fn pel_q15_tap(tap: f64) -> Report
 // One coefficient as a Q14 number, floor(16384 x + 0.5), as the value. Refused: 11 with the index 0 and −2, 2 −
 // 1/16384, x where that floor isn't in −32768 to 32767, or x is a NaN. Example: −2 − 2^−15 gives −32768, 2 − 2^−15 is
 // refused.
-#[unsafe(no_mangle)]
-pub extern "C" fn pel_q14_from_f64(x: f64) -> Report
+pub fn pel_q14_from_f64(x: f64) -> Report
     ensures { result ≡ coded_report (q14_tap_of 0 x) }
 {
     told(fmt_q14::q14_from_f64(0, x))

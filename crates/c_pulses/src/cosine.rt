@@ -12,8 +12,7 @@ use verdict::{Report, told_length};
 
 // How many taps a pulse of so many samples a symbol and a span of so many symbols has, as the count: span · samples +
 // 1. Refused, in this order: 6 with 2, 1024, samples; 6 with 4, 32, span. Example: (2, 4) has 9.
-#[unsafe(no_mangle)]
-pub extern "C" fn pel_rrc_len(samples: u64, span: u64) -> Report
+pub fn pel_rrc_len(samples: u64, span: u64) -> Report
     ensures { result ≡ length_report (rrc_len_of samples span) }
 {
     told_length(fir_rrc::design::rrc_len(samples, span))
@@ -21,8 +20,7 @@ pub extern "C" fn pel_rrc_len(samples: u64, span: u64) -> Report
 
 // Judges a root-raised-cosine pulse: its number of taps as the count, the factor that makes their energy 1 as the
 // value. Refused, in this order: 5 with 0.05, 1, rolloff; then as pel_rrc_len. Example: (0.5, 8, 8) has 65 taps.
-#[unsafe(no_mangle)]
-pub extern "C" fn pel_rrc_new(rolloff: f64, samples: u64, span: u64) -> Report
+pub fn pel_rrc_new(rolloff: f64, samples: u64, span: u64) -> Report
     ensures { result ≡ outcome_report (outcome_of (rrc_of rolloff samples span)) }
 {
     let designed = Rrc::new(rolloff, samples, span);
@@ -36,8 +34,7 @@ pub extern "C" fn pel_rrc_new(rolloff: f64, samples: u64, span: u64) -> Report
 // this order: 8 a length that isn't a multiple of 8, with the length to the last whole tap and the length, in bytes; as
 // pel_rrc_new; 8 a buffer for another number of taps, with both numbers of taps. A refusal leaves the buffer as it
 // came.
-#[unsafe(no_mangle)]
-pub extern "C" fn pel_rrc(rolloff: f64, samples: u64, span: u64, out: &mut [u8]) -> Report
+pub fn pel_rrc(rolloff: f64, samples: u64, span: u64, out: &mut [u8]) -> Report
     ensures { Writes float_bytes (rrc_bytes rolloff samples span (length out.old)) out.old result out.new }
 {
     put_rrc(rolloff, samples, span, &mut *out)

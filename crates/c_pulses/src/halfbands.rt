@@ -15,8 +15,7 @@ use verdict::Report;
 // last as the value. Refused, in this order: 6 where the taps aren't 3 mod 4, or are more than 2^24; 4 a beta that
 // isn't finite and not negative; 16 a series that hasn't settled, as at a beta above about 714; 10 a sum that is 0 or
 // not finite. Example: 5 taps are refused with 6.
-#[unsafe(no_mangle)]
-pub extern "C" fn pel_halfband_new(beta: f64, taps: u64) -> Report
+pub fn pel_halfband_new(beta: f64, taps: u64) -> Report
     ensures { result ≡ outcome_report (outcome_of (halfband_of beta taps)) }
 {
     let designed = HalfbandDesign::new(beta, taps);
@@ -29,8 +28,7 @@ pub extern "C" fn pel_halfband_new(beta: f64, taps: u64) -> Report
 // Fills the buffer with the taps of a half-band, eight bytes each, the lowest first, as many as it has room for;
 // answers as pel_halfband_new. Refused first: 8 a length that isn't a multiple of 8, with the length to the last whole
 // tap and the length, in bytes; then as that. A refusal leaves the buffer as it came.
-#[unsafe(no_mangle)]
-pub extern "C" fn pel_halfband(beta: f64, out: &mut [u8]) -> Report
+pub fn pel_halfband(beta: f64, out: &mut [u8]) -> Report
     ensures { Writes float_bytes (halfband_bytes beta (length out.old)) out.old result out.new }
 {
     let mut raws = [0.0f64; CACHED];

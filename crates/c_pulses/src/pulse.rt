@@ -14,8 +14,7 @@ use verdict::Report;
 // Judges a Gaussian pulse of bandwidth bt, so many samples a symbol and a span of so many symbols: samples · span + 1
 // taps as the count, the sum that they are divided by as the value. Refused, in this order: 5 with 0.2, 1, bt; 6 with
 // 2, 8, span; 6 with 2, (2^24 − 1)/span rounded down, samples. Example: (0.5, 8, 4) has 33 taps.
-#[unsafe(no_mangle)]
-pub extern "C" fn pel_gaussian_new(bt: f64, samples: u64, span: u64) -> Report
+pub fn pel_gaussian_new(bt: f64, samples: u64, span: u64) -> Report
     ensures { result ≡ outcome_report (outcome_of (gaussian_of bt samples span)) }
 {
     let designed = Gaussian::new(bt, samples, span);
@@ -29,8 +28,7 @@ pub extern "C" fn pel_gaussian_new(bt: f64, samples: u64, span: u64) -> Report
 // Refused, in this order: 8 a length that isn't a multiple of 8, with the length to the last whole tap and the length,
 // in bytes; as pel_gaussian_new; 8 a buffer for another number of taps, with both numbers of taps. A refusal leaves the
 // buffer as it came.
-#[unsafe(no_mangle)]
-pub extern "C" fn pel_gaussian(bt: f64, samples: u64, span: u64, out: &mut [u8]) -> Report
+pub fn pel_gaussian(bt: f64, samples: u64, span: u64, out: &mut [u8]) -> Report
     ensures { Writes float_bytes (gaussian_bytes bt samples span (length out.old)) out.old result out.new }
 {
     let mut raws = [0.0f64; CACHED];

@@ -13,14 +13,7 @@ use verdict::{BAD_CODE, Refusal};
 // Fills the buffer with the taps of a low-pass, eight bytes each, the lowest first, as many as it has room for, and
 // gives the record to keep with it; windows, report and refusals are those of pel_lowpass. A refusal leaves the buffer
 // as it came, and its record is all zeros, which no design has. Example: (0.25, 1, 0, 0) and 8 bytes write 1.0.
-#[unsafe(no_mangle)]
-pub extern "C" fn pel_design_lowpass(
-    cutoff: f64,
-    rate: f64,
-    window: u64,
-    beta: f64,
-    out: &mut [u8],
-) -> Tuned
+pub fn pel_design_lowpass(cutoff: f64, rate: f64, window: u64, beta: f64, out: &mut [u8]) -> Tuned
     ensures { Tunes none (lowpass_for cutoff rate window beta (length out.old)) out.old result out.new }
 {
     let kept = Design {
@@ -51,13 +44,7 @@ pub extern "C" fn pel_design_lowpass(
 // length that isn't a multiple of 8, with the length to the last whole tap and the length, in bytes; 8 a buffer for
 // another number of taps than the record has, with both numbers of taps; then as pel_lowpass: 1, 2, 6, 4, 16, 10. A
 // refusal leaves the record and the buffer as they came.
-#[unsafe(no_mangle)]
-pub extern "C" fn pel_design_new_cutoff(
-    design: Design,
-    cutoff: f64,
-    rate: f64,
-    out: &mut [u8],
-) -> Tuned
+pub fn pel_design_new_cutoff(design: Design, cutoff: f64, rate: f64, out: &mut [u8]) -> Tuned
     ensures { Tunes design (cutoff_for design cutoff rate (length out.old)) out.old result out.new }
 {
     let known = read(design, out.len() as u64);
@@ -75,8 +62,7 @@ pub extern "C" fn pel_design_new_cutoff(
 // Refused, in this order: 7 a window other than Kaiser's, before anything else; 8 and 8 as pel_design_new_cutoff; then
 // as pel_lowpass with the cutoff that the record keeps: 2, 6, 4, 16, 10, of which 2 and 6 come only of a record that no
 // design gave. A refusal leaves the record and the buffer as they came.
-#[unsafe(no_mangle)]
-pub extern "C" fn pel_design_new_beta(design: Design, beta: f64, out: &mut [u8]) -> Tuned
+pub fn pel_design_new_beta(design: Design, beta: f64, out: &mut [u8]) -> Tuned
     ensures { Tunes design (beta_for design beta (length out.old)) out.old result out.new }
 {
     if design.window != 3 {

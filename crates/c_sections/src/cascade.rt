@@ -35,8 +35,7 @@ fn write_cascade(response: Response, order: u64, cutoff: f64, rate: f64, out: &m
 // whole number and the length, in bytes; 7 a band-pass or a notch; 6 an order below 2 or above 8; 8 a buffer for
 // another number of numbers than five a section, with both; 2 with 0, rate/2, cutoff where the cutoff isn't between 0
 // and half of a finite rate. A refusal leaves the buffer as it came. Example: orders 3 and 4 need 80 bytes.
-#[unsafe(no_mangle)]
-pub extern "C" fn pel_butterworth_sos(
+pub fn pel_butterworth_sos(
     response: u64,
     order: u64,
     cutoff: f64,

@@ -17,14 +17,7 @@ use verdict::{BAD_CODE, Refusal, Report};
 // Refused, in this order: 7 another response; 8 with 40 and the length in bytes; 2 with 0, rate/2, centre where the
 // centre isn't between 0 and half of a finite rate; 5 with 0, infinity, q where q isn't finite and positive. A refusal
 // leaves the buffer as it came. Example: (1, 0.25, 0.5, 1) has b1 = −0.5.
-#[unsafe(no_mangle)]
-pub extern "C" fn pel_biquad_coefs(
-    response: u64,
-    centre: f64,
-    q: f64,
-    rate: f64,
-    out: &mut [u8],
-) -> Report
+pub fn pel_biquad_coefs(response: u64, centre: f64, q: f64, rate: f64, out: &mut [u8]) -> Report
     ensures { Writes float_bytes (biquad_bytes (response_of response) centre q rate (length out.old)) out.old result out.new }
 {
     let coded = response_of(response);
@@ -48,8 +41,7 @@ pub extern "C" fn pel_biquad_coefs(
 // Refused, in this order: 8 with 24 and the length in bytes; 5 with 0, 0.001, tau where tau isn't above 0 and at most
 // 0.001; 1 with 40000, infinity, rate where the rate isn't finite and at least 40000. A refusal leaves the buffer as it
 // came.
-#[unsafe(no_mangle)]
-pub extern "C" fn pel_preemphasis_coefs(tau: f64, rate: f64, out: &mut [u8]) -> Report
+pub fn pel_preemphasis_coefs(tau: f64, rate: f64, out: &mut [u8]) -> Report
     ensures { Writes float_bytes (preemphasis_bytes tau rate (length out.old)) out.old result out.new }
 {
     let len = out.len() as u64;
