@@ -46,6 +46,7 @@ enum Count {
 }
 
 // The value of a digit, the letters in upper case.
+#[tactic(auto, unfolding(crate::specs::Digits::digit_of))]
 fn read_digit(b: u8) -> Digit
     ensures { result ≡ digit_of b }
 {
