@@ -23,7 +23,8 @@ pub struct Source {
 }
 
 pub fn begun() -> Source
-    ensures { (result.until ≤ 4096) × (result.kind < 1000) }
+    ensures until { result.until ≤ 4096 }
+    ensures kind { result.kind < 1000 }
 {
     Source {
         from: 0,
@@ -39,7 +40,8 @@ pub fn begun() -> Source
 
 // The source from which no line comes any more.
 fn ended() -> Source
-    ensures { (result.until ≤ 4096) × (result.kind < 1000) }
+    ensures until { result.until ≤ 4096 }
+    ensures kind { result.kind < 1000 }
 {
     let mut t = begun();
     t.at_end = true;
@@ -144,7 +146,8 @@ pub fn next_line(
     text: &mut [u8; TEXT],
     words: &mut [u64; WORDS],
 ) -> Source
-    ensures { (result.until ≤ 4096) × (result.kind < 1000) }
+    ensures until { result.until ≤ 4096 }
+    ensures kind { result.kind < 1000 }
 {
     if s.until > CHUNK {
         return ended();
