@@ -14,8 +14,10 @@ mod told;
 mod written;
 
 use replay_lines::line::{TEXT, WORDS};
+use replay_lines::source::CHUNK;
 use replay_lines::tally::{COUNTS, Tally, Verdict};
 use replay_lines::{source, tally};
+use std::io::Read;
 
 // What the port says to a line's words, by the group that has its kind.
 fn judge(kind: usize, words: &[u64; WORDS], count: usize) -> Verdict {
@@ -33,36 +35,34 @@ fn judge(kind: usize, words: &[u64; WORDS], count: usize) -> Verdict {
     }
 }
 
-// Judges every line. The turns are counted down for the same reason as in replay_lines::source.
-fn judge_all(counts: &mut [u64; COUNTS]) -> Tally {
-    let mut chunk = io::buffer();
+// Judges every line. The turns are counted for the same reason as in replay_lines::source.
+fn judge_all(rt: &impl Print, input: &mut impl Read, counts: &mut [u64; COUNTS]) -> Tally {
+    let mut chunk = [0u8; CHUNK];
     let mut text = [0u8; TEXT];
     let mut words = [0u64; WORDS];
     let mut s = source::begun();
     let mut t = tally::begun();
-    let mut turns = u64::MAX;
-    while turns > 0 {
-        s = source::next_line(s, &mut chunk, &mut text, &mut words);
+    for _ in 0..u64::MAX {
+        s = source::next_line(rt, input, s, &mut chunk, &mut text, &mut words);
         if s.done {
             break;
         }
         let verdict = judge(s.kind, &words, s.count);
-        t = tally::note(t, s.kind, verdict, counts);
-        turns -= 1;
+        t = tally::note(rt, t, s.kind, verdict, counts);
     }
     t
 }
 
-fn main() {
+fn main(rt: HostRuntime) {
     let mut counts = [0u64; COUNTS];
-    let t = judge_all(&mut counts);
-    names::functions(&counts);
-    names::lengths(&counts);
-    names::lowpasses(&counts);
-    names::designs(&counts);
-    names::q15(&counts);
-    names::beside(&counts);
-    names::formats(&counts);
-    names::windows(&counts);
-    tally::total(t);
+    let t = judge_all(&rt, &mut rt.stdin(), &mut counts);
+    names::functions(&rt, &counts);
+    names::lengths(&rt, &counts);
+    names::lowpasses(&rt, &counts);
+    names::designs(&rt, &counts);
+    names::q15(&rt, &counts);
+    names::beside(&rt, &counts);
+    names::formats(&rt, &counts);
+    names::windows(&rt, &counts);
+    tally::total(&rt, t);
 }

@@ -40,7 +40,8 @@ fn lowest(n: u64) -> u8 {
 
 // Are the width bytes from index at those of the word, the lowest first, and is there no more of it?
 fn has_word(out: &[u8; ROOM], at: usize, width: usize, word: u64) -> bool
-    requires { (at ≤ 4096) × (width ≤ 8) }
+    requires at { at ≤ 4096 }
+    requires width { width ≤ 8 }
 {
     let mut rest = word;
     for i in 0..width {

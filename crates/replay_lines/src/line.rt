@@ -46,6 +46,7 @@ enum Count {
 }
 
 // The value of a digit, the letters in upper case.
+#[tactic(auto, unfolding(crate::specs::Digits::digit_of))]
 fn read_digit(b: u8) -> Digit
     ensures { result ≡ digit_of b }
 {
@@ -66,7 +67,8 @@ fn read_digit(b: u8) -> Digit
 // is 0 where there is none.
 fn read_kind(text: &[u8; TEXT], n: usize) -> Kind
     requires { n < 1636 }
-    ensures { (result.value < 1000) × (result.end ≤ n) }
+    ensures value { result.value < 1000 }
+    ensures end { result.end ≤ n }
 {
     let mut value = 0;
     let mut i = 0;

@@ -11,7 +11,9 @@ const LAST: usize = WORDS - ELEMENTS - 1;
 
 // Puts so many elements of width bytes to the start of the buffer, their patterns standing from index first.
 fn fill(words: &[u64; WORDS], first: usize, elements: usize, width: usize, out: &mut [u8])
-    requires { (first ≤ 64) × (elements ≤ 32) × (width ≤ 8) }
+    requires first { first ≤ 64 }
+    requires elements { elements ≤ 32 }
+    requires width { width ≤ 8 }
 {
     let mut from = 0;
     for i in 0..elements {

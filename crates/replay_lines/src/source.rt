@@ -1,10 +1,11 @@
-// The lines of the list, read from standard input one after the other.
+// The lines of the list, read from the input one after the other.
 ghost use Rattle.std.specs.Prelude.{◌<◌, ◌≤◌};
 
 use crate::line::{TEXT, WORDS};
 use crate::{line, tally};
+use std::io::Read;
 
-// How many bytes are read at once, the length of io::buffer().
+// How many bytes are read at once.
 pub const CHUNK: usize = 4096;
 
 // How far the input is read: the part of the chunk that is not taken yet, and whether the input is at its end. Then the
@@ -22,7 +23,8 @@ pub struct Source {
 }
 
 pub fn begun() -> Source
-    ensures { (result.until ≤ 4096) × (result.kind < 1000) }
+    ensures until { result.until ≤ 4096 }
+    ensures kind { result.kind < 1000 }
 {
     Source {
         from: 0,
@@ -38,7 +40,8 @@ pub fn begun() -> Source
 
 // The source from which no line comes any more.
 fn ended() -> Source
-    ensures { (result.until ≤ 4096) × (result.kind < 1000) }
+    ensures until { result.until ≤ 4096 }
+    ensures kind { result.kind < 1000 }
 {
     let mut t = begun();
     t.at_end = true;
@@ -46,15 +49,24 @@ fn ended() -> Source
     t
 }
 
+// How many bytes came by one read. None came where it failed, which is said.
+fn count_read(rt: &impl Print, input: &mut impl Read, chunk: &mut [u8; CHUNK]) -> usize
+    ensures { result ≤ 4096 }
+{
+    match input.read(chunk) {
+        Ok(n) => n,
+        Err(_) => {
+            tally::say(rt, b"the list cannot be read\n");
+            0
+        }
+    }
+}
+
 // Reads once. The input is at its end where nothing came.
-fn read_some(s: Source, chunk: &mut [u8; CHUNK]) -> Source
+fn read_some(rt: &impl Print, input: &mut impl Read, s: Source, chunk: &mut [u8; CHUNK]) -> Source
     ensures { result.until ≤ 4096 }
 {
-    let got = libc::read(libc::STDIN_FILENO, chunk);
-    if got < 0 {
-        tally::say(b"the list cannot be read\n");
-    }
-    let n = io::count(got, chunk);
+    let n = count_read(rt, input, chunk);
     let mut t = s;
     t.from = 0;
     t.until = n;
@@ -80,13 +92,19 @@ fn put(s: Source, byte: u8, text: &mut [u8; TEXT]) -> Source
 }
 
 // Takes a byte of the chunk, or reads where it has none left.
-fn step(s: Source, chunk: &mut [u8; CHUNK], text: &mut [u8; TEXT]) -> Source
+fn step(
+    rt: &impl Print,
+    input: &mut impl Read,
+    s: Source,
+    chunk: &mut [u8; CHUNK],
+    text: &mut [u8; TEXT],
+) -> Source
     requires { s.until ≤ 4096 }
     ensures { result.until ≤ 4096 }
 {
     let from = s.from;
     if from >= s.until {
-        return read_some(s, chunk);
+        return read_some(rt, input, s, chunk);
     }
     let mut t = s;
     t.from = from + 1;
@@ -94,24 +112,25 @@ fn step(s: Source, chunk: &mut [u8; CHUNK], text: &mut [u8; TEXT]) -> Source
 }
 
 // The bytes up to the next newline, or to the end of the input. A proved loop has to end, and nothing says that the
-// input does. So the loop counts its turns down, from a number that no run uses up.
-fn next_bytes(s: Source, chunk: &mut [u8; CHUNK], text: &mut [u8; TEXT]) -> Source
+// input does. So the loop counts its turns, up to a number that no run reaches.
+fn next_bytes(
+    rt: &impl Print,
+    input: &mut impl Read,
+    s: Source,
+    chunk: &mut [u8; CHUNK],
+    text: &mut [u8; TEXT],
+) -> Source
     requires { s.until ≤ 4096 }
     ensures { result.until ≤ 4096 }
 {
     let mut t = s;
     t.at = 0;
     t.whole = false;
-    let mut turns = u64::MAX;
-    while turns > 0 {
-        if t.whole {
+    for _ in 0..u64::MAX {
+        if t.whole || t.at_end {
             break;
         }
-        if t.at_end {
-            break;
-        }
-        t = step(t, chunk, text);
-        turns -= 1;
+        t = step(rt, input, t, chunk, text);
     }
     t
 }
@@ -120,17 +139,20 @@ fn next_bytes(s: Source, chunk: &mut [u8; CHUNK], text: &mut [u8; TEXT]) -> Sour
 // at the end of the input with no newline is no whole line and cannot be read: it has the kind 0. A source that says
 // that more is read than a chunk has room for has no next line.
 pub fn next_line(
+    rt: &impl Print,
+    input: &mut impl Read,
     s: Source,
     chunk: &mut [u8; CHUNK],
     text: &mut [u8; TEXT],
     words: &mut [u64; WORDS],
 ) -> Source
-    ensures { (result.until ≤ 4096) × (result.kind < 1000) }
+    ensures until { result.until ≤ 4096 }
+    ensures kind { result.kind < 1000 }
 {
     if s.until > CHUNK {
         return ended();
     }
-    let mut t = next_bytes(s, chunk, text);
+    let mut t = next_bytes(rt, input, s, chunk, text);
     t.kind = 0;
     t.count = 0;
     if !t.whole {

@@ -1,9 +1,6 @@
 // What the lines came to, counted and printed. The counts wrap, which no run lives to see.
 ghost use Rattle.std.specs.Prelude.{◌<◌};
 
-use libc::STDOUT_FILENO;
-use std::num::wrapping_add_u64;
-
 // A kind has at most three digits.
 const KINDS: usize = 1000;
 
@@ -46,86 +43,93 @@ pub fn begun() -> Tally {
     }
 }
 
-pub(crate) fn say(text: &[u8]) {
-    io::write_all(STDOUT_FILENO, text);
+// What cannot be written is lost, and the run goes on: whoever holds its output to what is wanted finds it missing.
+pub(crate) fn say(rt: &impl Print, text: &[u8]) {
+    let _ = rt.write_all(text);
 }
 
-fn say_number(n: u64) {
-    io::print_decimal(STDOUT_FILENO, n);
+fn say_number(rt: &impl Print, n: u64) {
+    let _ = rt.print(n);
 }
 
 // line 17 differs
-fn name_line(number: u64, what: &[u8]) {
-    say(b"line ");
-    say_number(number);
-    say(what);
+fn name_line(rt: &impl Print, number: u64, what: &[u8]) {
+    say(rt, b"line ");
+    say_number(rt, number);
+    say(rt, what);
 }
 
 fn answered(t: Tally, kind: usize, counts: &mut [u64; COUNTS]) -> Tally
     requires { kind < 1000 }
 {
     let mut q = t;
-    q.answers = wrapping_add_u64(t.answers, 1);
-    counts[kind] = wrapping_add_u64(counts[kind], 1);
+    q.answers = t.answers.wrapping_add(1);
+    counts[kind] = counts[kind].wrapping_add(1);
     q
 }
 
-fn differing(t: Tally, kind: usize, counts: &mut [u64; COUNTS]) -> Tally
+fn differing(rt: &impl Print, t: Tally, kind: usize, counts: &mut [u64; COUNTS]) -> Tally
     requires { kind < 1000 }
 {
     if t.differ < NAMED {
-        name_line(t.lines, b" differs\n");
+        name_line(rt, t.lines, b" differs\n");
     }
     let mut q = t;
-    q.differ = wrapping_add_u64(t.differ, 1);
-    counts[KINDS + kind] = wrapping_add_u64(counts[KINDS + kind], 1);
+    q.differ = t.differ.wrapping_add(1);
+    counts[KINDS + kind] = counts[KINDS + kind].wrapping_add(1);
     answered(q, kind, counts)
 }
 
-fn unreadable(t: Tally) -> Tally {
-    name_line(t.lines, b" is unreadable\n");
+fn unreadable(rt: &impl Print, t: Tally) -> Tally {
+    name_line(rt, t.lines, b" is unreadable\n");
     let mut q = t;
-    q.unreadable = wrapping_add_u64(t.unreadable, 1);
+    q.unreadable = t.unreadable.wrapping_add(1);
     q
 }
 
 // One line more, and this is what it came to. A line whose kind has more than three digits is unreadable, whatever the
 // verdict.
-pub fn note(t: Tally, kind: usize, verdict: Verdict, counts: &mut [u64; COUNTS]) -> Tally {
+pub fn note(
+    rt: &impl Print,
+    t: Tally,
+    kind: usize,
+    verdict: Verdict,
+    counts: &mut [u64; COUNTS],
+) -> Tally {
     let mut q = t;
-    q.lines = wrapping_add_u64(t.lines, 1);
+    q.lines = t.lines.wrapping_add(1);
     if kind >= KINDS {
-        return unreadable(q);
+        return unreadable(rt, q);
     }
     match verdict {
         Verdict::Same => answered(q, kind, counts),
-        Verdict::Differs => differing(q, kind, counts),
-        Verdict::Unreadable => unreadable(q),
+        Verdict::Differs => differing(rt, q, kind, counts),
+        Verdict::Unreadable => unreadable(rt, q),
     }
 }
 
-fn say_counts(answers: u64, differ: u64) {
-    say_number(answers);
-    say(b" answers, ");
-    say_number(differ);
-    say(b" differ");
+fn say_counts(rt: &impl Print, answers: u64, differ: u64) {
+    say_number(rt, answers);
+    say(rt, b" answers, ");
+    say_number(rt, differ);
+    say(rt, b" differ");
 }
 
 // delay: 40 answers, 0 differ. Nothing of a kind that has no counts.
-pub fn named(name: &[u8], kind: usize, counts: &[u64; COUNTS]) {
+pub fn named(rt: &impl Print, name: &[u8], kind: usize, counts: &[u64; COUNTS]) {
     if kind >= KINDS {
         return;
     }
-    say(name);
-    say(b": ");
-    say_counts(counts[kind], counts[KINDS + kind]);
-    say(b"\n");
+    say(rt, name);
+    say(rt, b": ");
+    say_counts(rt, counts[kind], counts[KINDS + kind]);
+    say(rt, b"\n");
 }
 
 // 1600 answers, 0 differ, 0 unreadable lines
-pub fn total(t: Tally) {
-    say_counts(t.answers, t.differ);
-    say(b", ");
-    say_number(t.unreadable);
-    say(b" unreadable lines\n");
+pub fn total(rt: &impl Print, t: Tally) {
+    say_counts(rt, t.answers, t.differ);
+    say(rt, b", ");
+    say_number(rt, t.unreadable);
+    say(rt, b" unreadable lines\n");
 }
