@@ -7,7 +7,7 @@ use Rattle.wire.specs.Bytes.{float_at}
 use Rattle.verdict.specs.declared.Refusal.TheVariants.{Length}
 use Rattle.win_shapes.specs.declared.cosines.Cosines.{Cosines}
 use Rattle.win_cosines.specs.Load.{cosines_of, load_of}
-use Rattle.win_cosines.specs.LoadLaws.{never, these}
+use Rattle.win_cosines.proofs.LoadLaws.{never, these}
 use Rattle.win_cosines.specs.declared.Loading.TheVariants.{Loaded, Refused}
 use Rattle.c_cosines.specs.Loads.{numbers_in, load_bytes}
 

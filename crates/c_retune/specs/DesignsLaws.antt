@@ -13,12 +13,12 @@ use Rattle.wire.proofs.WritesLaws.{room, leaves}
 use Rattle.fir_sinc.specs.declared.window.Window.{Window}
 use Rattle.fir_sinc.specs.declared.window.Window.TheVariants.{Kaiser}
 use Rattle.fir_lowpass.specs.Lowpass.{lowpass_with, lowpass_of, outcome_of}
-use Rattle.fir_lowpass.specs.LowpassLaws.{never}
+use Rattle.fir_lowpass.proofs.LowpassLaws.{never}
 use Rattle.fir_lowpass.specs.declared.lowpass.Lowpass.{Lowpass}
 use Rattle.fir_lowpass.specs.declared.lowpass.Designed.{Designed}
 use Rattle.fir_lowpass.specs.declared.lowpass.Designed.TheVariants.{Ready, Refused}
 use Rattle.fir_retune.specs.Retune.{new_cutoff_of, new_beta_of}
-use Rattle.fir_retune.specs.RetuneLaws as Retune
+use Rattle.fir_retune.proofs.RetuneLaws as Retune
 use Rattle.ticket_codes.specs.Codes.{window_of}
 use Rattle.ticket_codes.specs.declared.Coded.{Coded}
 use Rattle.ticket_codes.specs.declared.Coded.TheVariants.{Known, Unknown}

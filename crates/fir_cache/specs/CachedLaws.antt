@@ -6,7 +6,7 @@ use Rattle.std.specs.Float.Ieee.{of_bits, add}
 use Rattle.laws.specs.Binary64.{◌⊕◌}
 use Rattle.laws.specs.Cases.{either}
 use Rattle.laws.specs.Numbers.{lt_or_le}
-use Rattle.laws.specs.Sums.{sum_none, sum_more}
+use Rattle.laws.proofs.SumsLaws.{sum_none, sum_more}
 use Rattle.fir_cache.specs.Cached.{CachesOf, SumCached, Adds}
 
 keeps_more : (g : ℕ → Float) (n : ℕ) (rs : List Float) (v : Float) → v ≡ g n → CachesOf g n rs → CachesOf g (n + 1) (set rs n v)

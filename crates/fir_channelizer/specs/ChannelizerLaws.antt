@@ -14,7 +14,7 @@ use Rattle.fir_length.specs.Kaiser.{beta_of, estimate}
 use Rattle.verdict.specs.declared.Length.{Length}
 use Rattle.verdict.specs.declared.Length.TheVariants as Length
 use Rattle.fir_lowpass.specs.Lowpass.{where_passed, lowpass_of, outcome_of}
-use Rattle.fir_lowpass.specs.LowpassLaws.{never, prepares_as}
+use Rattle.fir_lowpass.proofs.LowpassLaws.{never, prepares_as}
 use Rattle.fir_lowpass.specs.Cached.{PreparesLowpass}
 use Rattle.fir_sinc.specs.declared.window.Window.TheVariants.{Kaiser}
 use Rattle.fir_lowpass.specs.declared.lowpass.Lowpass.{Lowpass}

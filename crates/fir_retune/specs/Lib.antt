@@ -1,4 +1,2 @@
 pub mod Retune
 pub mod Operations
-pub mod RetuneLaws
-pub mod Lists

@@ -6,7 +6,7 @@ use Rattle.fir_length.specs.declared.order.Order.{Order}
 use Rattle.fir_length.specs.declared.order.Order.TheVariants as Order
 use Rattle.fir_sinc.specs.declared.window.Window.TheVariants.{Kaiser}
 use Rattle.fir_lowpass.specs.Lowpass.{outcome_of}
-use Rattle.fir_lowpass.specs.LowpassLaws.{lowpass_count}
+use Rattle.fir_lowpass.proofs.LowpassLaws.{lowpass_count}
 use Rattle.fir_spec.specs.declared.DesignSpec.{DesignSpec}
 use Rattle.fir_spec.specs.Spec.{design_in, spec_order_of, spec_design_of}
 

@@ -20,7 +20,8 @@ use Rattle.c_card.specs.Cards.{no_ticket, told_of, ChecksCard}
 use Rattle.c_card.specs.declared.reading.TicketRead.{TicketRead}
 use Rattle.c_card.specs.declared.reading.CardChecked.{CardChecked}
 use Rattle.promise_refusals.specs.Demand.{listed}
-use Rattle.promise_refusals.specs.Listed.{Listed, never_zero, numbered, done_heard}
+use Rattle.promise_refusals.specs.Listed.{Listed}
+use Rattle.promise_refusals.proofs.ListedLaws.{never_zero, numbered, done_heard}
 use Rattle.promise_card.specs.Reads.{of_reading, Held, ReadOrNone, CheckedCard}
 use Rattle.promise_card.specs.Whole.{whole_card, broken_card}
 

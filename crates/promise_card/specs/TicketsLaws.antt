@@ -32,11 +32,12 @@ use Rattle.c_card.specs.declared.reading.TicketRead.{TicketRead}
 use Rattle.c_formats.specs.declared.element.Format.TheVariants.{Q15}
 use Rattle.c_formats.specs.Conversions.{ConvertsBytes}
 use Rattle.promise_refusals.specs.Demand.{listed}
-use Rattle.promise_refusals.specs.Listed.{Listed, never_zero}
+use Rattle.promise_refusals.specs.Listed.{Listed}
+use Rattle.promise_refusals.proofs.ListedLaws.{never_zero}
 use Rattle.promise_refusals.specs.Judgements.{whole_listed, lowpass_listed, spec_design_listed, halfband_listed, gaussian_listed, gaussian_fitted_listed, rrc_listed, rrc_fitted_listed, channelizer_listed, channelizer_fitted_listed}
 use Rattle.promise_totals.specs.Sound.{Sound, lowpass_bytes_sound, spec_bytes_sound, halfband_bytes_sound, gaussian_bytes_sound, channelizer_bytes_sound}
-use Rattle.promise_totals.specs.Written.{of_writes}
-use Rattle.promise_totals.specs.Filter.{filter_total, whole_taps_lem}
+use Rattle.promise_totals.proofs.WrittenLaws.{of_writes}
+use Rattle.promise_totals.proofs.FilterLaws.{filter_total, whole_taps_lem}
 use Rattle.promise_totals.specs.Mirror.{WhereMade, bytes_symmetric, mirrored_written, zeros_written}
 use Rattle.promise_card.specs.ReadsLaws.{read_coded}
 use Rattle.promise_card.specs.Tickets.{Divided, TicketTotals, TicketFilters, TicketMirrors, DesignsRead}

@@ -9,7 +9,7 @@ use Rattle.std.proofs.lemmas.Bool.{eqb-false}
 use Rattle.std.specs.Float.Ieee.{Float, binary64, round, fits}
 use Rattle.std.specs.Float.Ieee.Scale.{finite}
 use Rattle.laws.specs.Binary64.{◌⊗◌, ◌⊘◌, whole, fraction}
-use Rattle.laws.specs.Sums.{sum_below}
+use Rattle.laws.proofs.SumsLaws.{sum_below}
 use Rattle.verdict.specs.Numbers.{bad_sum}
 use Rattle.verdict.specs.Outcome.{Outcome, Agrees}
 use Rattle.verdict.specs.Outcome as Outcome
@@ -31,7 +31,7 @@ use Rattle.fir_sinc.specs.Taps.{raw_at}
 use Rattle.fir_sinc.specs.declared.window.Window.{Window}
 use Rattle.fir_sinc.specs.declared.window.Window.TheVariants as Window
 use Rattle.fir_lowpass.specs.Lowpass.{divisor_of, beta_taken, series_settle, usable, judgement_of, design_of, where_passed, lowpass_with, lowpass_of, tap_of, outcome_of}
-use Rattle.fir_lowpass.specs.LowpassLaws.{passed, count_most}
+use Rattle.fir_lowpass.proofs.LowpassLaws.{passed, count_most}
 use Rattle.fir_lowpass.specs.declared.lowpass.Designed.TheVariants.{Ready, Refused}
 use Rattle.ticket_codes.specs.Codes.{window_of}
 use Rattle.ticket_codes.specs.declared.Coded.TheVariants.{Known}

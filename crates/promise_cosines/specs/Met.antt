@@ -14,13 +14,13 @@ use Rattle.math_round.specs.Whole.{floor_of, abs_of, as_float}
 use Rattle.verdict.specs.Outcome.{Outcome}
 use Rattle.c_lowpass.specs.Lowpass.{lowpass_bytes}
 use Rattle.promise_totals.specs.Sound.{lowpass_bytes_sound}
-use Rattle.promise_totals.specs.Written.{lowpass_written}
+use Rattle.promise_totals.proofs.WrittenLaws.{lowpass_written}
 use Rattle.fir_lowpass.specs.Lowpass as Lowpass
 use Rattle.win_cosines.specs.Load.{cosines_of}
 use Rattle.fir_sinc.specs.declared.window.Window.TheVariants.{Cosines}
 use Rattle.ticket_codes.specs.declared.Coded.{Coded}
 use Rattle.ticket_codes.specs.declared.Coded.TheVariants.{Known}
-use Rattle.promise_totals.specs.Met.{all, met, Stands, itself, stands, of_size}
+use Rattle.promise_totals.proofs.Met.{all, met, Stands, itself, stands, of_size}
 
 -- Blackman and Harris's window, loaded: in 40 bytes 5 taps
 abbrev pub harris_loaded : Coded

@@ -3,4 +3,3 @@ pub mod Demand
 pub mod Listed
 pub mod Judgements
 pub mod Exports
-pub mod Kept

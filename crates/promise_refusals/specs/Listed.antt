@@ -33,41 +33,12 @@ use Rattle.promise_refusals.specs.Demand.{listed, IsRefusal, Numbered}
 use Rattle.promise_refusals.specs.Verdicts.{of_length, of_order, of_delay, of_coded, of_loading, of_series, of_samples}
 
 -- ---- the list
-unfoldable every : (ℕ → Bool) → List ℕ → Bool
+unfoldable pub every : (ℕ → Bool) → List ℕ → Bool
 every p [] = true
 every p (n ∷ ns) = p n && every p ns
 
--- what every number of a list passes, one of them does
-one_of : (p : ℕ → Bool) (k : ℕ) (ns : List ℕ) → T (every p ns) → T (listed k ns) → T (p k)
-unfolding every listed
-one_of p k [] h l = absurd l
-one_of p k (n ∷ ns) h l = go (eqb k n) (eqb-true k n) (λ m. one_of p k ns (and_r (p n) (every p ns) h) m) l
-  where
-    go : (b : Bool) → (b ≡ true → k ≡ n) → (T (listed k ns) → T (p k)) → T (b || listed k ns) → T (p k)
-    go true e rest l = subst (λ (m : ℕ). T (p m)) (sym (e refl)) (and_l (p n) (every p ns) h)
-    go false e rest l = rest l
-
-abbrev is_known : ℕ → Bool
+abbrev pub is_known : ℕ → Bool
 is_known k = (leb 1 k && leb k 14) || (leb 16 k && leb k 19)
-
-all_known : T (every is_known refusals)
-unfolding every
-all_known = tt
-
--- a to b
-within : (a b k : ℕ) → T (leb a k && leb k b) → (a ≤ k) × (k ≤ b)
-within a b k h = (leb-true a k (is_true (leb a k) (and_l (leb a k) (leb k b) h)), leb-true k b (is_true (leb k b) (and_r (leb a k) (leb k b) h)))
-
--- 1 to 14, and 16 to 19
-pub between : (k : ℕ) → IsRefusal k → ((1 ≤ k) × (k ≤ 14)) ⊎ ((16 ≤ k) × (k ≤ 19))
-between k l = go (leb 1 k && leb k 14) (within 1 14 k) (one_of is_known k refusals all_known l)
-  where
-    go : (b : Bool) → (T b → (1 ≤ k) × (k ≤ 14)) → T (b || (leb 16 k && leb k 19)) → ((1 ≤ k) × (k ≤ 14)) ⊎ ((16 ≤ k) × (k ≤ 19))
-    go true f h = inl (f tt)
-    go false f h = inr (within 16 19 k h)
-
-pub never_zero : (k : ℕ) → IsRefusal k → k ≡ 0 → ⊥
-never_zero k l e = either (between k l) (λ r. omega (arith, r.0, e)) (λ r. omega (arith, r.0, e))
 
 -- ---- a verdict
 -- the number that its caller hears
@@ -79,70 +50,3 @@ heard (Refused why) = (report_of why).number
 abbrev pub Listed : Verdict → Type 0
 Listed Done = Unit {0}
 Listed (Refused why) = IsRefusal (report_of why).number
-
-never_refused : (why : Refusal) → Refused why ≡ Done → ⊥
-never_refused why e = let z : ◌≡◌ {A = ℕ} 0 1 = cc in omega arith
-
-pub numbered : (v : Verdict) {k : ℕ} → k ≡ heard v → Listed v → Numbered v k
-numbered Done {k} e l = record { number = inl e; accepted = λ d. e; only = λ z. refl }
-numbered (Refused why) {k} e l = record {
-  number = inr (subst IsRefusal (sym e) l);
-  accepted = λ d. absurd (never_refused why d);
-  only = λ z. absurd (never_zero (report_of why).number l (sym e ∙ z));
-}
-
--- "the number is 0 or one of" the refusals': 1 to 14 or 16 to 19
-pub zero_or_between : {v : Verdict} {k : ℕ} → Numbered v k → (k ≡ 0) ⊎ (((1 ≤ k) × (k ≤ 14)) ⊎ ((16 ≤ k) × (k ≤ 19)))
-zero_or_between {v} {k} n = either n.number (λ e. inl e) (λ l. inr (between k l))
-
--- ---- what is told of each kind of answer
-pub outcome_heard : (o : Outcome) → (outcome_report o).number ≡ heard (answered o)
-unfolding accepted_of
-outcome_heard (Outcome.Designed n divisor tap) = refl
-outcome_heard (Outcome.Refused why) = refl
-
-pub done_heard : (n : ℕ) (v : Verdict) → (done_report n v).number ≡ heard v
-unfolding accepted_of
-done_heard n Done = refl
-done_heard n (Refused why) = refl
-
-pub length_heard : (l : Length) → (length_report l).number ≡ heard (of_length l)
-unfolding accepted_of
-length_heard (Length.Taps n) = refl
-length_heard (Length.Refused why) = refl
-
-pub order_heard : (o : Order) → (order_report o).number ≡ heard (of_order o)
-unfolding accepted_of
-order_heard (Order.Taps n beta) = refl
-order_heard (Order.Refused why) = refl
-
-pub delay_heard : (d : Delayed) → (delay_report d).number ≡ heard (of_delay d)
-unfolding accepted_of
-delay_heard (Delayed.HalfSamples n) = refl
-delay_heard (Delayed.Refused why) = refl
-
-pub coded_heard : (c : Coded) → (coded_report c).number ≡ heard (of_coded c)
-unfolding accepted_of
-coded_heard (Coded.Number q) = refl
-coded_heard (Coded.Refused why) = refl
-
-pub loading_heard : (n : ℕ) (l : Loading) → (answer_of n l).report.number ≡ heard (of_loading l)
-unfolding accepted_of
-loading_heard n (Loading.Loaded c) = refl
-loading_heard n (Loading.Refused why) = refl
-
-pub series_heard : (s : Series) → (series_report s).number ≡ heard (of_series s)
-unfolding accepted_of report_of
-series_heard s = go s.settled
-  where
-    go : (b : Bool) → (cond b (accepted_of s.terms s.sum) (unsettled_of s.terms s.sum)).number ≡ heard (cond b Done (Refused (Refusal.Plain not_settled)))
-    go true = refl
-    go false = refl
-
-pub gain_heard : (s : List ℕ) → (gain_report s).number ≡ heard (of_samples s)
-unfolding gain_report report_of
-gain_heard s = go (eqb (length s % 4) 0) _ _ refl refl
-  where
-    go : (b : Bool) (x y : GainReport) → x.number ≡ 0 → y.number ≡ bad_length → (cond b x y).number ≡ heard (cond b Done (Refused (Refusal.Length (length s - length s % 4) (length s))))
-    go true x y e f = e
-    go false x y e f = f

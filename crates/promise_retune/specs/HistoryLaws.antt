@@ -16,13 +16,13 @@ use Rattle.fir_sinc.specs.Windows.{norm_of}
 use Rattle.fir_sinc.specs.declared.window.Window.{Window}
 use Rattle.fir_sinc.specs.declared.window.Window.TheVariants.{Hann, Hamming, Blackman, Kaiser, Cosines}
 use Rattle.fir_lowpass.specs.Lowpass.{lowpass_of, outcome_of}
-use Rattle.fir_lowpass.specs.LowpassLaws.{never, designed, ready_is}
+use Rattle.fir_lowpass.proofs.LowpassLaws.{never, designed, ready_is}
 use Rattle.fir_lowpass.specs.declared.lowpass.Lowpass.{Lowpass}
 use Rattle.fir_lowpass.specs.declared.lowpass.Designed.{Designed}
 use Rattle.fir_lowpass.specs.declared.lowpass.Designed.TheVariants.{Ready, Refused}
 use Rattle.fir_retune.specs.Retune.{new_cutoff_of, where_kaiser, new_beta_of}
 use Rattle.fir_retune.specs.Operations.{Numbers, designed_from, Operation, NewCutoff, NewBeta, placed, accepted_in}
-use Rattle.fir_retune.specs.Lists as Lists
+use Rattle.fir_retune.proofs.Lists as Lists
 use Rattle.ticket_codes.specs.Codes.{window_of, code_of, has_code}
 use Rattle.ticket_codes.specs.CodesLaws.{window_back, came_of_code}
 use Rattle.ticket_codes.specs.declared.Coded.{Coded}
@@ -31,7 +31,8 @@ use Rattle.c_lowpass.specs.Lowpass.{lowpass_bytes}
 use Rattle.c_retune.specs.Designs.{design_as, none, whole_in, fits_in, read_in, read_of, then_of, lowpass_in, lowpass_for, cutoff_for, beta_for, afterwards, Tunes}
 use Rattle.c_retune.specs.declared.record.Design.{Design}
 use Rattle.c_retune.specs.declared.write.Tuned.{Tuned}
-use Rattle.promise_refusals.specs.Listed.{Listed, never_zero}
+use Rattle.promise_refusals.specs.Listed.{Listed}
+use Rattle.promise_refusals.proofs.ListedLaws.{never_zero}
 use Rattle.promise_retune.specs.Histories.{comes_with, accepted_with, DesignedAs, Call, Advances, Promised, Follows, last_record, last_numbers, AllAdvance, Carried, last_bytes, Shows, Begins, LeavesRecord}
 
 -- ---- the buffer's tests stand before the turn, or after

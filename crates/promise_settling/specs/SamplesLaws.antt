@@ -28,7 +28,8 @@ use Rattle.c_windows.specs.Samples.{width_of, sample_bytes, window_bytes}
 use Rattle.c_windows.specs.declared.codes.Coded.{Coded}
 use Rattle.c_windows.specs.declared.codes.Coded.TheVariants.{Known}
 use Rattle.c_windows.specs.declared.sample.Sample.{Sample}
-use Rattle.promise_refusals.specs.Listed.{Listed, never_zero}
+use Rattle.promise_refusals.specs.Listed.{Listed}
+use Rattle.promise_refusals.proofs.ListedLaws.{never_zero}
 use Rattle.promise_refusals.specs.Judgements.{window_listed}
 use Rattle.promise_settling.specs.Settling.{FiniteSamples}
 

@@ -39,7 +39,8 @@ use Rattle.c_windows.specs.Samples.{width_of, sample_bytes, window_bytes}
 use Rattle.c_windows.specs.declared.codes.Coded as SymmetryCode
 use Rattle.c_windows.specs.declared.codes.Coded.TheVariants as Symmetry
 use Rattle.c_windows.specs.declared.sample.Sample.{Sample}
-use Rattle.promise_refusals.specs.Listed.{heard, outcome_heard}
+use Rattle.promise_refusals.specs.Listed.{heard}
+use Rattle.promise_refusals.proofs.ListedLaws.{outcome_heard}
 use Rattle.promise_settling.specs.Settling.{TakenTo713}
 
 -- ---- a verdict that isn't 16

@@ -10,7 +10,7 @@ use Rattle.laws.specs.Binary64.{◌⊘◌, whole}
 use Rattle.math_exp.specs.ExpFits.{exp_fits}
 use Rattle.fir_sinc.specs.Taps.{raw_at}
 use Rattle.fir_lowpass.specs.Lowpass as Lowpass
-use Rattle.fir_lowpass.specs.LowpassLaws.{designed, ready_is, ready_with, count_least, count_most}
+use Rattle.fir_lowpass.proofs.LowpassLaws.{designed, ready_is, ready_with, count_least, count_most}
 use Rattle.fir_sinc.specs.declared.window.Window.{Window}
 use Rattle.fir_lowpass.specs.declared.lowpass.Lowpass.{Lowpass}
 use Rattle.fir_lowpass.specs.declared.lowpass.Designed.TheVariants as Designed
@@ -22,7 +22,7 @@ use Rattle.fir_gaussian.specs.Gaussian as Gaussian
 use Rattle.fir_gaussian.specs.GaussianLaws as GaussianLaws
 use Rattle.fir_gaussian.specs.declared.gaussian_design.Gaussian.{Gaussian}
 use Rattle.fir_gaussian.specs.declared.gaussian_design.GaussianDesigned.TheVariants as GaussianDesigned
-use Rattle.promise_totals.specs.Normalised.{Normalised}
+use Rattle.promise_totals.proofs.Normalised.{Normalised}
 
 nought_fits : T (fits binary64 (whole 0))
 nought_fits = of_int-fits binary64 _

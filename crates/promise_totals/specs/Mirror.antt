@@ -23,7 +23,7 @@ use Rattle.c_pulses.specs.Buffers.{halfband_bytes}
 use Rattle.verdict.specs.Reports.{outcome_report}
 use Rattle.wire.specs.Writes.{Writes, written}
 use Rattle.promise_totals.specs.Sound.{Sound, halfband_bytes_sound}
-use Rattle.promise_totals.specs.Written.{by_writes}
+use Rattle.promise_totals.proofs.WrittenLaws.{by_writes}
 use Rattle.laws.specs.Cases.{either_way}
 
 -- ---- the taps, wherever they are put

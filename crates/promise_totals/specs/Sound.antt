@@ -40,9 +40,10 @@ use Rattle.c_retune.specs.Designs.{lowpass_for, cutoff_for, beta_for}
 use Rattle.c_retune.specs.DesignsLaws.{lowpass_has, cutoff_has, beta_has}
 use Rattle.c_retune.specs.declared.record.Design.{Design}
 use Rattle.c_pulses.specs.Buffers.{halfband_bytes, gaussian_bytes}
-use Rattle.promise_refusals.specs.Listed.{Listed, never_zero}
+use Rattle.promise_refusals.specs.Listed.{Listed}
+use Rattle.promise_refusals.proofs.ListedLaws.{never_zero}
 use Rattle.promise_refusals.specs.Exports as Exports
-use Rattle.promise_totals.specs.Normalised.{Normalised}
+use Rattle.promise_totals.proofs.Normalised.{Normalised}
 use Rattle.promise_totals.specs.Kinds.{with_normalised, lowpass_tap_fits, halfband_normalised, halfband_tap_fits, gaussian_normalised, gaussian_tap_fits}
 
 -- ---- what is shown

@@ -31,7 +31,8 @@ use Rattle.c_card.specs.Cards.{told_of}
 use Rattle.c_card.specs.Writing.{written_for, left_for, WritesTicket}
 use Rattle.c_card.specs.declared.reading.TicketRead.{TicketRead}
 use Rattle.promise_refusals.specs.Demand.{listed, Numbered}
-use Rattle.promise_refusals.specs.Listed.{Listed, numbered, done_heard, never_zero}
+use Rattle.promise_refusals.specs.Listed.{Listed}
+use Rattle.promise_refusals.proofs.ListedLaws.{numbered, done_heard, never_zero}
 use Rattle.promise_card.specs.Reads.{of_reading}
 use Rattle.promise_card.specs.ReadsLaws.{read_listed, read_coded}
 use Rattle.promise_written.specs.Fits.{ticket_fits, read_fits}

@@ -11,7 +11,7 @@ use Rattle.verdict.specs.Counted.{Counted}
 use Rattle.fir_length.specs.declared.order.Order.{Order}
 use Rattle.fir_length.specs.declared.order.Order.TheVariants as Order
 use Rattle.fir_lowpass.specs.Lowpass.{where_passed, lowpass_of, outcome_of}
-use Rattle.fir_lowpass.specs.LowpassLaws.{lowpass_count}
+use Rattle.fir_lowpass.proofs.LowpassLaws.{lowpass_count}
 use Rattle.fir_lowpass.specs.declared.lowpass.Designed.{Designed}
 use Rattle.fir_lowpass.specs.declared.lowpass.Designed.TheVariants as Designed
 use Rattle.fir_spec.specs.Spec.{lowpass_in, design_in, taps_in as length_in, num_taps_of, spec_order_of, spec_lowpass_of, spec_design_of}

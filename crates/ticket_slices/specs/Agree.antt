@@ -8,14 +8,14 @@ use Prim.Native.Nat.{ℕ, ◌-◌, ◌%◌, ◌<◌, min}
 use Rattle.std.specs.Float.Ieee.{binary64}
 use Rattle.laws.specs.Binary64.{◌⊘◌, whole}
 use Rattle.laws.specs.Filled.{tabulate, tabulate_below}
-use Rattle.laws.specs.Sums.{sum_below}
+use Rattle.laws.proofs.SumsLaws.{sum_below}
 use Rattle.verdict.specs.Numbers.{bad_count, bad_sum}
 use Rattle.verdict.specs.declared.Refusal.{Refusal}
 use Rattle.verdict.specs.declared.Refusal.TheVariants.{Plain}
 use Rattle.verdict.specs.Outcome.{Outcome, Fills, Agrees}
 use Rattle.verdict.specs.Outcome as Outcome
 use Rattle.fir_lowpass.specs.Lowpass as Lowpass
-use Rattle.fir_lowpass.specs.LowpassLaws.{ready_is}
+use Rattle.fir_lowpass.proofs.LowpassLaws.{ready_is}
 use Rattle.fir_sinc.specs.declared.window.Window.TheVariants.{Kaiser}
 use Rattle.verdict.specs.declared.Verdict.TheVariants as Verdict
 use Rattle.fir_lowpass.specs.declared.lowpass.Lowpass.{Lowpass}

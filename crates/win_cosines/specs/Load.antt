@@ -4,7 +4,7 @@
 use Rattle.std.specs.Prelude.{cond, ◌&&◌, List, [], ◌∷◌, length, nat_le, slice_index_or, Float}
 use Rattle.std.specs.Float.Ieee.{neg}
 use Rattle.laws.specs.Binary64.{whole, fraction}
-use Rattle.math_unity.specs.Unity.{within, near_one}
+use Rattle.math_unity.specs.Unity.{within, near_one, five}
 use Rattle.verdict.specs.Numbers.{bad_coefficient_count, bad_coefficient, bad_coefficient_sum}
 use Rattle.verdict.specs.declared.Refusal.TheVariants.{Plain, Range}
 use Rattle.verdict.specs.declared.Verdict.{Verdict}
@@ -45,3 +45,7 @@ hamming_numbers = fraction 54 100 ∷ fraction 46 100 ∷ []
 
 abbrev pub blackman_numbers : List Float
 blackman_numbers = fraction 42 100 ∷ fraction 1 2 ∷ fraction 8 100 ∷ []
+
+-- the five numbers of a window
+abbrev pub five_in : Cosines → List Float
+five_in c = five c.c0 c.c1 c.c2 c.c3 c.c4

@@ -10,7 +10,7 @@ ghost use Rattle.verdict.specs.declared.Refusal.TheVariants.{Range};
 ghost use Rattle.verdict.specs.declared.Verdict.TheVariants.{Refused};
 ghost use Rattle.win_cosines.specs.declared.Loading.TheVariants as Loading;
 ghost use Rattle.win_cosines.specs.Load.{cosines_of, numbers_taken, load_of};
-ghost use Rattle.win_cosines.specs.LoadLaws.{five_in};
+ghost use Rattle.win_cosines.specs.Load.{five_in};
 
 use math_unity::{is_within, sums_to_one};
 use verdict::{BAD_COEFFICIENT, BAD_COEFFICIENT_COUNT, BAD_COEFFICIENT_SUM, Refusal, Verdict};

@@ -3,7 +3,8 @@ use mathlib.Core.Path.{◌≡◌, ap, ◌∙◌}
 use Prim.Native.Nat.{ℕ, ◌≤◌, ◌-◌}
 use native.Mathlib.Omega.{arith}
 use lib.Ieee.{Float, binary64, add}
-use Rattle.laws.specs.Sums.{sum_to, sum_none, sum_more}
+use Rattle.laws.specs.Sums.{sum_to}
+use Rattle.laws.proofs.SumsLaws.{sum_none, sum_more}
 use Rattle.fir_lowpass.specs.Cached.{Caches}
 use Rattle.fir_halfband.specs.Halfband.{unscaled}
 use Rattle.fir_halfband.proofs.total.Goals as goal

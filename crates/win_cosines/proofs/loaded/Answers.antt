@@ -3,7 +3,7 @@ use Rattle.std.proofs.Common.{Bool, cond, sym, ap, ◌∙◌, arith, rules}
 use Rattle.verdict.specs.Numbers.{bad_coefficient_sum}
 use Rattle.verdict.specs.declared.Refusal.TheVariants.{Plain}
 use Rattle.win_cosines.specs.declared.Loading.TheVariants.{Loaded, Refused}
-use Rattle.win_cosines.specs.LoadLaws.{too_few, too_many, not_taken, by_sum}
+use Rattle.win_cosines.proofs.LoadLaws.{too_few, too_many, not_taken, by_sum}
 use Rattle.win_cosines.proofs.loaded.Goals as goal
 
 pub returns-then-count-lt1 : goal.returns-then-count-lt1

@@ -3,7 +3,7 @@ use Rattle.std.proofs.Common.{sym, rules}
 use lib.Ieee.{nan, of_bits, of_int}
 use lib.ListN.{get_or-eq_default}
 use Rattle.laws.specs.Binary64.{whole}
-use Rattle.win_cosines.specs.LoadLaws.{given}
+use Rattle.win_cosines.proofs.LoadLaws.{given}
 use Rattle.win_cosines.proofs.number_at.Goals as goal
 
 pub returns-then-i-numbers : goal.returns-then-i-numbers

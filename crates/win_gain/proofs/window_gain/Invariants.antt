@@ -2,7 +2,8 @@
 use Rattle.std.proofs.Common.{◌≡◌, ℕ, ◌+◌, ◌-◌, ◌≤◌, List, length, get_or, ap, ◌∙◌, arith, rules}
 use lib.Ieee.{Float, nan, binary64}
 use Rattle.laws.specs.Binary64.{◌⊕◌, ◌⊗◌}
-use Rattle.laws.specs.Sums.{sum_to, sum_none, sum_more}
+use Rattle.laws.specs.Sums.{sum_to}
+use Rattle.laws.proofs.SumsLaws.{sum_none, sum_more}
 use Rattle.win_gain.specs.Gain.{gain_of}
 use Rattle.win_gain.proofs.window_gain.Given as goal
 

@@ -7,7 +7,8 @@ use lib.ListN.{length, get_or}
 use lib.Ieee.{Float, nan, binary64}
 use Rattle.laws.specs.Binary64.{◌⊕◌, ◌⊗◌}
 use Rattle.laws.specs.Filled.{length_tabulate, get_d_tabulate}
-use Rattle.laws.specs.Sums.{sum_to, sum_none, sum_more}
+use Rattle.laws.specs.Sums.{sum_to}
+use Rattle.laws.proofs.SumsLaws.{sum_none, sum_more}
 use Rattle.wire.specs.Bytes.{single_at}
 use Rattle.win_gain.specs.Gain.{summed, gain_of}
 use Rattle.c_gain.specs.Level.{singles}

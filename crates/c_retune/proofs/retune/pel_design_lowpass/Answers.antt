@@ -6,7 +6,7 @@ use lib.ListN.{length}
 use lib.Ieee.{of_bits, of_int}
 use Rattle.fir_sinc.specs.declared.window.Window.{Window}
 use Rattle.fir_lowpass.specs.Lowpass.{lowpass_of, outcome_of}
-use Rattle.fir_lowpass.specs.LowpassLaws.{lowpass_count}
+use Rattle.fir_lowpass.proofs.LowpassLaws.{lowpass_count}
 use Rattle.fir_lowpass.specs.declared.lowpass.Designed.{Designed}
 use Rattle.wire.proofs.WritesLaws.{room}
 use Rattle.ticket_codes.specs.declared.Coded.{Coded}

@@ -10,7 +10,7 @@ use Rattle.fir_lowpass.specs.declared.lowpass.Lowpass.{Lowpass}
 use Rattle.fir_lowpass.specs.declared.lowpass.Designed.{Designed}
 use Rattle.fir_lowpass.specs.declared.lowpass.Designed.TheVariants.{Refused}
 use Rattle.fir_retune.specs.Retune.{new_beta_of}
-use Rattle.fir_retune.specs.RetuneLaws.{beta_count}
+use Rattle.fir_retune.proofs.RetuneLaws.{beta_count}
 use Rattle.ticket_taps.specs.FitsLaws.{fits_lowpass}
 use Rattle.c_retune.specs.Designs.{read_of, then_of, beta_for}
 use Rattle.c_retune.specs.DesignsLaws.{left_so, tunes_as, read_fits, fitting_room}

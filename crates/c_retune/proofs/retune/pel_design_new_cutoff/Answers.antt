@@ -5,7 +5,7 @@ use lib.ListN.{length}
 use Rattle.fir_lowpass.specs.declared.lowpass.Lowpass.{Lowpass}
 use Rattle.fir_lowpass.specs.declared.lowpass.Designed.{Designed}
 use Rattle.fir_retune.specs.Retune.{new_cutoff_of}
-use Rattle.fir_retune.specs.RetuneLaws.{cutoff_count}
+use Rattle.fir_retune.proofs.RetuneLaws.{cutoff_count}
 use Rattle.ticket_taps.specs.FitsLaws.{fits_lowpass}
 use Rattle.c_retune.specs.Designs.{then_of, cutoff_for}
 use Rattle.c_retune.specs.DesignsLaws.{left_so, tunes_as, read_fits, fitting_room}

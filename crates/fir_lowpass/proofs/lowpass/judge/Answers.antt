@@ -7,7 +7,7 @@ use lib.Ieee.{of_bits, of_int}
 use Rattle.laws.specs.Binary64.{◌⊘◌}
 use Rattle.math_numbers.specs.Numbers.{positive}
 use Rattle.fir_lowpass.specs.Lowpass.{inside, count_taken, beta_taken}
-use Rattle.fir_lowpass.specs.LowpassLaws.{count_least, passes, no_series, no_beta, no_count, no_cutoff, no_rate}
+use Rattle.fir_lowpass.proofs.LowpassLaws.{count_least, passes, no_series, no_beta, no_count, no_cutoff, no_rate}
 use Rattle.fir_lowpass.proofs.lowpass.judge.Goals as goal
 
 pub returns-then-not-is_positive : goal.returns-then-not-is_positive

@@ -5,7 +5,7 @@ use lib.Ieee.{Float}
 use Rattle.laws.specs.Binary64.{◌⊘◌}
 use Rattle.fir_sinc.specs.Windows.{norm_of}
 use Rattle.fir_lowpass.specs.Lowpass.{judgement_of, design_of, lowpass_of}
-use Rattle.fir_lowpass.specs.LowpassLaws.{count_most, passed, builds, refuses, prepares_as, prepares_refusal}
+use Rattle.fir_lowpass.proofs.LowpassLaws.{count_most, passed, builds, refuses, prepares_as, prepares_refusal}
 use Rattle.verdict.specs.declared.Verdict.TheVariants as Verdict
 use Rattle.fir_lowpass.proofs.lowpass.prepare.Goals as goal
 

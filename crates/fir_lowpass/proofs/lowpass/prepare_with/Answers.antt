@@ -2,7 +2,7 @@
 use mathlib.Core.Path.{◌≡◌, sym, ◌∙◌}
 use borrow.Author.Rules.{rules}
 use Rattle.fir_lowpass.specs.Lowpass.{judgement_of}
-use Rattle.fir_lowpass.specs.LowpassLaws.{count_most, passed, builds, refuses, prepares_as, prepares_refusal}
+use Rattle.fir_lowpass.proofs.LowpassLaws.{count_most, passed, builds, refuses, prepares_as, prepares_refusal}
 use Rattle.verdict.specs.declared.Verdict.TheVariants as Verdict
 use Rattle.fir_lowpass.proofs.lowpass.prepare_with.Goals as goal
 

@@ -2,7 +2,8 @@
 use Rattle.std.proofs.Common.{◌≡◌, ℕ, ◌-◌, ◌≤◌, ap, ◌∙◌, arith, rules}
 use lib.Ieee.{Float, binary64}
 use Rattle.laws.specs.Binary64.{◌⊕◌, ◌⊗◌}
-use Rattle.laws.specs.Sums.{sum_to, sum_none, sum_more}
+use Rattle.laws.specs.Sums.{sum_to}
+use Rattle.laws.proofs.SumsLaws.{sum_none, sum_more}
 use Rattle.fir_rrc.specs.Rrc.{unscaled_at}
 use Rattle.fir_rrc.proofs.design.energy.Invariants.{square}
 use Rattle.fir_rrc.proofs.design.energy.Goals as goal

@@ -1,7 +1,7 @@
 -- `promise_calls::card::design_ticket` meets its contract: what its export ensures, by demands 1 and 3. Assumes
 -- nothing.
 use lib.ListN.{length}
-use Rattle.promise_refusals.specs.Kept.{filled_or_kept}
+use Rattle.promise_refusals.proofs.Kept.{filled_or_kept}
 use Rattle.promise_card.specs.TicketsLaws.{bytes_listed, ticket_totals, ticket_mirrors}
 use borrow.Author.Rules.{rules}
 use Rattle.promise_calls.proofs.card.design_ticket.Statement.{statement}

@@ -4,7 +4,7 @@ use Rattle.verdict.specs.Outcome.{Outcome, answered}
 use Rattle.verdict.specs.declared.Report.{Report}
 use Rattle.ticket_kinds.specs.Kinds.{formed_of}
 use Rattle.c_card.specs.Tickets.{judged_for}
-use Rattle.promise_refusals.specs.Listed.{numbered, outcome_heard}
+use Rattle.promise_refusals.proofs.ListedLaws.{numbered, outcome_heard}
 use Rattle.promise_card.specs.TicketsLaws.{judged_listed}
 use borrow.Author.Rules.{rules}
 use Rattle.promise_calls.proofs.card.judge_ticket.Statement.{statement}

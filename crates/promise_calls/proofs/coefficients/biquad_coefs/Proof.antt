@@ -1,7 +1,7 @@
 -- `promise_calls::coefficients::biquad_coefs` meets its contract: what its export ensures, by demand 1. Assumes nothing.
 use Rattle.c_sections.specs.Codes.{response_of}
 use Rattle.promise_refusals.specs.Exports.{biquad_bytes_lem}
-use Rattle.promise_refusals.specs.Kept.{filled_or_kept}
+use Rattle.promise_refusals.proofs.Kept.{filled_or_kept}
 use lib.ListN.{length}
 use borrow.Author.Rules.{rules}
 use Rattle.promise_calls.proofs.coefficients.biquad_coefs.Statement.{statement}

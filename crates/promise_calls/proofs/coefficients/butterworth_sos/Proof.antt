@@ -3,7 +3,7 @@
 use Rattle.c_sections.specs.Codes.{response_of}
 use Rattle.c_sections.specs.EvenOrders.{keeps_even}
 use Rattle.promise_refusals.specs.Exports.{butterworth_bytes_lem}
-use Rattle.promise_refusals.specs.Kept.{filled_or_kept}
+use Rattle.promise_refusals.proofs.Kept.{filled_or_kept}
 use lib.ListN.{length}
 use borrow.Author.Rules.{rules}
 use Rattle.promise_calls.proofs.coefficients.butterworth_sos.Statement.{statement}

@@ -1,5 +1,5 @@
 -- `promise_calls::conversions::to_f32` meets its contract: what its export ensures, by demand 1. Assumes nothing.
-use Rattle.promise_refusals.specs.Kept.{converted_or_kept}
+use Rattle.promise_refusals.proofs.Kept.{converted_or_kept}
 use borrow.Author.Rules.{rules}
 use Rattle.promise_calls.proofs.conversions.to_f32.Statement.{statement}
 use Rattle.promise_calls.proofs.conversions.to_f32.Tie as tie

@@ -1,6 +1,6 @@
 -- `promise_calls::cosines::load_cosines` meets its contract: what its export ensures, by demand 1 and since the windows
 -- that are built in are taken. Assumes nothing.
-use Rattle.promise_refusals.specs.Kept.{loaded_or_none}
+use Rattle.promise_refusals.proofs.Kept.{loaded_or_none}
 use Rattle.promise_cosines.specs.LoadedLaws.{takes_built_ins}
 use borrow.Author.Rules.{rules}
 use Rattle.promise_calls.proofs.cosines.load_cosines.Statement.{statement}

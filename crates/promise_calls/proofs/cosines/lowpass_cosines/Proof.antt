@@ -4,8 +4,8 @@ use lib.ListN.{length}
 use Rattle.fir_sinc.specs.declared.window.Window.TheVariants.{Cosines}
 use Rattle.ticket_codes.specs.declared.Coded.TheVariants.{Known}
 use Rattle.promise_refusals.specs.Exports.{lowpass_bytes_lem}
-use Rattle.promise_refusals.specs.Kept.{filled_or_kept}
-use Rattle.promise_totals.specs.Written.{lowpass_written}
+use Rattle.promise_refusals.proofs.Kept.{filled_or_kept}
+use Rattle.promise_totals.proofs.WrittenLaws.{lowpass_written}
 use Rattle.promise_cosines.specs.LoadedLaws.{writes_built_ins}
 use borrow.Author.Rules.{rules}
 use Rattle.promise_calls.proofs.cosines.lowpass_cosines.Statement.{statement}

@@ -3,7 +3,7 @@
 -- Assumes nothing.
 use Rattle.fir_sinc.specs.declared.window.Window.TheVariants.{Cosines}
 use Rattle.ticket_codes.specs.declared.Coded.TheVariants.{Known}
-use Rattle.promise_totals.specs.Filter.{lowpass_filter}
+use Rattle.promise_totals.proofs.FilterLaws.{lowpass_filter}
 use borrow.Author.Rules.{rules}
 use Rattle.promise_calls.proofs.cosines.lowpass_cosines_q15.Statement.{statement}
 use Rattle.promise_calls.proofs.cosines.lowpass_cosines_q15.Tie as tie

@@ -1,7 +1,7 @@
 -- `promise_calls::designs::gaussian` meets its contract: what its export ensures, by demands 1 and 3. Assumes nothing.
 use Rattle.promise_refusals.specs.Exports.{gaussian_bytes_lem}
-use Rattle.promise_refusals.specs.Kept.{filled_or_kept}
-use Rattle.promise_totals.specs.Written.{gaussian_written}
+use Rattle.promise_refusals.proofs.Kept.{filled_or_kept}
+use Rattle.promise_totals.proofs.WrittenLaws.{gaussian_written}
 use lib.ListN.{length}
 use borrow.Author.Rules.{rules}
 use Rattle.promise_calls.proofs.designs.gaussian.Statement.{statement}

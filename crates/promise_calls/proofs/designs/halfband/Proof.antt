@@ -1,10 +1,10 @@
 -- `promise_calls::designs::halfband` meets its contract: what its export ensures, by demands 1 and 3 and since up to
 -- 713 every series settles. Assumes nothing.
 use Rattle.promise_refusals.specs.Exports.{halfband_bytes_lem}
-use Rattle.promise_refusals.specs.Kept.{filled_or_kept}
+use Rattle.promise_refusals.proofs.Kept.{filled_or_kept}
 use Rattle.promise_settling.specs.TakenLaws.{halfband_taken}
 use Rattle.promise_totals.specs.Mirror.{halfband_mirrored, halfband_zeros}
-use Rattle.promise_totals.specs.Written.{halfband_written}
+use Rattle.promise_totals.proofs.WrittenLaws.{halfband_written}
 use lib.ListN.{length}
 use borrow.Author.Rules.{rules}
 use Rattle.promise_calls.proofs.designs.halfband.Statement.{statement}

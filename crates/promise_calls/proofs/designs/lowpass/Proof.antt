@@ -2,9 +2,9 @@
 -- 713 every series settles. Assumes nothing.
 use Rattle.ticket_codes.specs.Codes.{window_of}
 use Rattle.promise_refusals.specs.Exports.{lowpass_bytes_lem}
-use Rattle.promise_refusals.specs.Kept.{filled_or_kept}
+use Rattle.promise_refusals.proofs.Kept.{filled_or_kept}
 use Rattle.promise_settling.specs.TakenLaws.{lowpass_taken}
-use Rattle.promise_totals.specs.Written.{lowpass_written}
+use Rattle.promise_totals.proofs.WrittenLaws.{lowpass_written}
 use lib.ListN.{length}
 use borrow.Author.Rules.{rules}
 use Rattle.promise_calls.proofs.designs.lowpass.Statement.{statement}

@@ -1,6 +1,6 @@
 -- `promise_calls::designs::rrc` meets its contract: what its export ensures, by demand 1. Assumes nothing.
 use Rattle.promise_refusals.specs.Exports.{rrc_bytes_lem}
-use Rattle.promise_refusals.specs.Kept.{filled_or_kept}
+use Rattle.promise_refusals.proofs.Kept.{filled_or_kept}
 use lib.ListN.{length}
 use borrow.Author.Rules.{rules}
 use Rattle.promise_calls.proofs.designs.rrc.Statement.{statement}

@@ -1,8 +1,8 @@
 -- `promise_calls::designs::spec_design` meets its contract: what its export ensures, by demands 1 and 3. Assumes nothing.
 use Rattle.c_lowpass.specs.Spec.{spec_of}
 use Rattle.promise_refusals.specs.Exports.{spec_bytes_lem}
-use Rattle.promise_refusals.specs.Kept.{filled_or_kept}
-use Rattle.promise_totals.specs.Written.{spec_written}
+use Rattle.promise_refusals.proofs.Kept.{filled_or_kept}
+use Rattle.promise_totals.proofs.WrittenLaws.{spec_written}
 use lib.ListN.{length}
 use borrow.Author.Rules.{rules}
 use Rattle.promise_calls.proofs.designs.spec_design.Statement.{statement}

@@ -2,7 +2,7 @@
 use Rattle.fir_channelizer.specs.Channelizer.{channelizer_lowpass_of}
 use Rattle.fir_lowpass.specs.Lowpass.{outcome_of}
 use Rattle.promise_refusals.specs.Judgements.{channelizer_listed}
-use Rattle.promise_refusals.specs.Listed.{numbered, outcome_heard}
+use Rattle.promise_refusals.proofs.ListedLaws.{numbered, outcome_heard}
 use Rattle.verdict.specs.Outcome.{answered}
 use Rattle.verdict.specs.declared.Report.{Report}
 use mathlib.Core.Path.{ap, ◌∙◌}

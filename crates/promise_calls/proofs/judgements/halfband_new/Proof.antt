@@ -1,7 +1,7 @@
 -- `promise_calls::judgements::halfband_new` meets its contract: what its export ensures, by demand 1. Assumes nothing.
 use Rattle.fir_halfband.specs.Halfband.{halfband_of, outcome_of}
 use Rattle.promise_refusals.specs.Judgements.{halfband_listed}
-use Rattle.promise_refusals.specs.Listed.{numbered, outcome_heard}
+use Rattle.promise_refusals.proofs.ListedLaws.{numbered, outcome_heard}
 use Rattle.verdict.specs.Outcome.{answered}
 use Rattle.verdict.specs.declared.Report.{Report}
 use mathlib.Core.Path.{ap, ◌∙◌}

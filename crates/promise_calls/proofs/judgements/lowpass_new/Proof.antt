@@ -3,7 +3,7 @@ use Rattle.ticket_codes.specs.Codes.{window_of}
 use Rattle.c_lowpass.specs.Lowpass.{lowpass_coded}
 use Rattle.fir_lowpass.specs.Lowpass.{outcome_of}
 use Rattle.promise_refusals.specs.Exports.{lowpass_coded_lem}
-use Rattle.promise_refusals.specs.Listed.{numbered, outcome_heard}
+use Rattle.promise_refusals.proofs.ListedLaws.{numbered, outcome_heard}
 use Rattle.verdict.specs.Outcome.{answered}
 use Rattle.verdict.specs.declared.Report.{Report}
 use mathlib.Core.Path.{ap, ◌∙◌}

@@ -1,7 +1,7 @@
 -- `promise_calls::judgements::rrc_new` meets its contract: what its export ensures, by demand 1. Assumes nothing.
 use Rattle.fir_rrc.specs.Rrc.{rrc_of, outcome_of}
 use Rattle.promise_refusals.specs.Judgements.{rrc_listed}
-use Rattle.promise_refusals.specs.Listed.{numbered, outcome_heard}
+use Rattle.promise_refusals.proofs.ListedLaws.{numbered, outcome_heard}
 use Rattle.verdict.specs.Outcome.{answered}
 use Rattle.verdict.specs.declared.Report.{Report}
 use mathlib.Core.Path.{ap, ◌∙◌}

@@ -3,7 +3,7 @@
 use Rattle.math_bessel.specs.Series.{series_of}
 use Rattle.c_math.specs.SeriesTold.{KeepsSum, sum_kept}
 use Rattle.promise_refusals.specs.Judgements.{series_listed}
-use Rattle.promise_refusals.specs.Listed.{numbered, series_heard}
+use Rattle.promise_refusals.proofs.ListedLaws.{numbered, series_heard}
 use Rattle.promise_refusals.specs.Verdicts.{of_series}
 use Rattle.verdict.specs.declared.Report.{Report}
 use mathlib.Core.Path.{sym, ap, ◌∙◌, subst}

@@ -1,7 +1,7 @@
 -- `promise_calls::lengths::channelizer_taps` meets its contract: what its export ensures, by demand 1. Assumes nothing.
 use Rattle.fir_channelizer.specs.Channelizer.{channelizer_taps_of}
 use Rattle.promise_refusals.specs.Judgements.{channelizer_taps_listed}
-use Rattle.promise_refusals.specs.Listed.{numbered, length_heard}
+use Rattle.promise_refusals.proofs.ListedLaws.{numbered, length_heard}
 use Rattle.promise_refusals.specs.Verdicts.{of_length}
 use Rattle.verdict.specs.declared.Report.{Report}
 use mathlib.Core.Path.{ap, ◌∙◌}

@@ -3,7 +3,7 @@
 use Rattle.fir_delay.specs.Delay.{delay_of}
 use Rattle.c_math.specs.Delays.{KeepsHalf, half_kept}
 use Rattle.promise_refusals.specs.Judgements.{delay_listed}
-use Rattle.promise_refusals.specs.Listed.{numbered, delay_heard}
+use Rattle.promise_refusals.proofs.ListedLaws.{numbered, delay_heard}
 use Rattle.promise_refusals.specs.Verdicts.{of_delay}
 use Rattle.verdict.specs.declared.Report.{Report}
 use mathlib.Core.Path.{sym, ap, ◌∙◌, subst}

@@ -1,7 +1,7 @@
 -- `promise_calls::lengths::halfband_len` meets its contract: what its export ensures, by demand 1. Assumes nothing.
 use Rattle.fir_length.specs.Kaiser.{halfband_len_of}
 use Rattle.promise_refusals.specs.Judgements.{halfband_len_listed}
-use Rattle.promise_refusals.specs.Listed.{numbered, length_heard}
+use Rattle.promise_refusals.proofs.ListedLaws.{numbered, length_heard}
 use Rattle.promise_refusals.specs.Verdicts.{of_length}
 use Rattle.verdict.specs.declared.Report.{Report}
 use mathlib.Core.Path.{ap, ◌∙◌}

@@ -1,7 +1,7 @@
 -- `promise_calls::lengths::kaiserord` meets its contract: what its export ensures, by demand 1. Assumes nothing.
 use Rattle.fir_length.specs.Kaiser.{order_of}
 use Rattle.promise_refusals.specs.Judgements.{order_listed}
-use Rattle.promise_refusals.specs.Listed.{numbered, order_heard}
+use Rattle.promise_refusals.proofs.ListedLaws.{numbered, order_heard}
 use Rattle.promise_refusals.specs.Verdicts.{of_order}
 use Rattle.verdict.specs.declared.Report.{Report}
 use mathlib.Core.Path.{ap, ◌∙◌}

@@ -1,7 +1,7 @@
 -- `promise_calls::lengths::q15_tap` meets its contract: what its export ensures, by demand 1. Assumes nothing.
 use Rattle.fmt_q15.specs.Q15.{q15_tap_of}
 use Rattle.promise_refusals.specs.Judgements.{q15_listed}
-use Rattle.promise_refusals.specs.Listed.{numbered, coded_heard}
+use Rattle.promise_refusals.proofs.ListedLaws.{numbered, coded_heard}
 use Rattle.promise_refusals.specs.Verdicts.{of_coded}
 use Rattle.verdict.specs.declared.Report.{Report}
 use mathlib.Core.Path.{ap, ◌∙◌}

@@ -2,7 +2,7 @@
 use Rattle.c_lowpass.specs.Spec.{spec_of}
 use Rattle.fir_spec.specs.Spec.{num_taps_of}
 use Rattle.promise_refusals.specs.Judgements.{num_taps_listed}
-use Rattle.promise_refusals.specs.Listed.{numbered, length_heard}
+use Rattle.promise_refusals.proofs.ListedLaws.{numbered, length_heard}
 use Rattle.promise_refusals.specs.Verdicts.{of_length}
 use Rattle.verdict.specs.declared.Report.{Report}
 use mathlib.Core.Path.{ap, ◌∙◌}

@@ -2,7 +2,7 @@
 use Rattle.c_windows.specs.Codes.{symmetry_of}
 use Rattle.c_windows.specs.declared.sample.Sample.TheVariants.{Q15}
 use Rattle.promise_refusals.specs.Exports.{window_bytes_lem}
-use Rattle.promise_refusals.specs.Kept.{filled_or_kept}
+use Rattle.promise_refusals.proofs.Kept.{filled_or_kept}
 use Rattle.win_sampled.specs.declared.shape.Shape.TheVariants.{Hann}
 use lib.ListN.{length}
 use borrow.Author.Rules.{rules}

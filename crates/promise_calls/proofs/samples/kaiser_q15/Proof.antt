@@ -4,7 +4,7 @@ use Rattle.c_windows.specs.Codes.{symmetry_of}
 use Rattle.c_windows.specs.Samples.{width_of}
 use Rattle.c_windows.specs.declared.sample.Sample.TheVariants.{Q15}
 use Rattle.promise_refusals.specs.Exports.{window_bytes_lem}
-use Rattle.promise_refusals.specs.Kept.{filled_or_kept}
+use Rattle.promise_refusals.proofs.Kept.{filled_or_kept}
 use Rattle.promise_settling.specs.SamplesLaws.{finite_samples}
 use Rattle.promise_settling.specs.TakenLaws.{window_taken}
 use Rattle.win_sampled.specs.declared.shape.Shape.TheVariants.{Kaiser}

@@ -3,9 +3,9 @@
 use Rattle.ticket_codes.specs.Codes.{window_of}
 use Rattle.wire.proofs.WritesLaws.{writes_same}
 use Rattle.promise_refusals.specs.Exports.{lowpass_bytes_lem, design_lowpass}
-use Rattle.promise_refusals.specs.Kept.{filled_or_kept}
+use Rattle.promise_refusals.proofs.Kept.{filled_or_kept}
 use Rattle.promise_retune.specs.HistoryLaws.{as_lowpass, begins}
-use Rattle.promise_totals.specs.Written.{design_lowpass_written}
+use Rattle.promise_totals.proofs.WrittenLaws.{design_lowpass_written}
 use lib.ListN.{length}
 use borrow.Author.Rules.{rules}
 use Rattle.promise_calls.proofs.turns.design_lowpass.Statement.{statement}

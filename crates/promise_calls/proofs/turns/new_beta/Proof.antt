@@ -3,10 +3,10 @@
 use Rattle.fir_retune.specs.Operations.{NewBeta}
 use Rattle.c_retune.specs.Designs.{beta_for}
 use Rattle.promise_refusals.specs.Exports.{design_beta}
-use Rattle.promise_refusals.specs.Kept.{filled_or_kept}
+use Rattle.promise_refusals.proofs.Kept.{filled_or_kept}
 use Rattle.promise_retune.specs.Histories.{call_of}
 use Rattle.promise_retune.specs.HistoryLaws.{advances, leaves_record}
-use Rattle.promise_totals.specs.Written.{design_beta_written}
+use Rattle.promise_totals.proofs.WrittenLaws.{design_beta_written}
 use lib.ListN.{length}
 use borrow.Author.Rules.{rules}
 use Rattle.promise_calls.proofs.turns.new_beta.Statement.{statement}

@@ -5,7 +5,7 @@ use Prim.Native.Nat.{ℕ, ◌/◌}
 use lib.ListN.{length}
 use Rattle.verdict.specs.Outcome.{Outcome}
 use Rattle.fir_lowpass.specs.Lowpass.{lowpass_of, outcome_of}
-use Rattle.fir_lowpass.specs.LowpassLaws.{lowpass_count}
+use Rattle.fir_lowpass.proofs.LowpassLaws.{lowpass_count}
 use Rattle.wire.proofs.WritesLaws.{room, leaves_part, writes_whole}
 use Rattle.ticket_taps.specs.FitsLaws.{fits_lowpass}
 use borrow.Author.Rules.{rules}

@@ -15,7 +15,7 @@ use Rattle.fir_sinc.specs.Windows.{norm_of}
 use Rattle.fir_sinc.specs.declared.window.Window.{Window}
 use Rattle.fir_sinc.specs.declared.window.Window.TheVariants.{Hann, Hamming, Blackman, Kaiser, Cosines}
 use Rattle.fir_lowpass.specs.Lowpass.{inside, judgement_of, lowpass_with, lowpass_of}
-use Rattle.fir_lowpass.specs.LowpassLaws.{never, designed, Passed, ready_with}
+use Rattle.fir_lowpass.proofs.LowpassLaws.{never, designed, Passed, ready_with}
 use Rattle.fir_lowpass.specs.declared.lowpass.Lowpass.{Lowpass}
 use Rattle.fir_lowpass.specs.declared.lowpass.Designed.{Designed}
 use Rattle.fir_lowpass.specs.declared.lowpass.Designed.TheVariants.{Ready, Refused}

@@ -16,11 +16,7 @@ use Rattle.verdict.specs.declared.Verdict.{Verdict}
 use Rattle.verdict.specs.declared.Verdict.TheVariants as Verdict
 use Rattle.win_shapes.specs.declared.cosines.Cosines.{Cosines}
 use Rattle.win_cosines.specs.declared.Loading.TheVariants.{Loaded, Refused}
-use Rattle.win_cosines.specs.Load.{cosines_of, numbers_taken, where_passed, load_of}
-
--- the five numbers of a window
-abbrev pub five_in : Cosines → List Float
-five_in c = five c.c0 c.c1 c.c2 c.c3 c.c4
+use Rattle.win_cosines.specs.Load.{five_in, cosines_of, numbers_taken, where_passed, load_of}
 
 -- a number that is given is read alike whatever one that isn't would be
 pub given : (cs : List Float) (i : ℕ) (a b : Float) → i < length cs → slice_index_or cs i a ≡ slice_index_or cs i b

@@ -32,7 +32,7 @@ use Rattle.verdict.specs.Outcome.{Outcome, Fills}
 use Rattle.verdict.specs.Outcome as Outcome
 use Rattle.fir_sinc.specs.Windows.{window_at, norm_of}
 use Rattle.fir_sinc.specs.declared.window.Window.TheVariants.{Hann}
-use Rattle.fir_lowpass.specs.LowpassLaws.{lowpass_count}
+use Rattle.fir_lowpass.proofs.LowpassLaws.{lowpass_count}
 use Rattle.fir_spec.specs.SpecLaws.{spec_count}
 use Rattle.fir_gaussian.specs.GaussianLaws.{gaussian_count}
 use Rattle.fir_channelizer.specs.ChannelizerLaws.{channelizer_count}
@@ -57,10 +57,13 @@ use Rattle.fir_halfband.specs.HalfbandLaws.{halfband_count}
 use Rattle.fir_halfband.specs.Mirror.{IsZero}
 use Rattle.promise_totals.specs.Bounds.{TapTotal, Q15Total, unsaturated}
 use Rattle.promise_totals.specs.Sound.{Sound, lowpass_bytes_sound, spec_bytes_sound, halfband_bytes_sound, gaussian_bytes_sound, channelizer_bytes_sound}
-use Rattle.promise_totals.specs.Written.{Accepted, divisor_in, taps_in, Totals, lowpass_written, spec_written, halfband_written, gaussian_written, channelizer_written}
+use Rattle.promise_totals.specs.Written.{Accepted, divisor_in, taps_in, Totals}
+use Rattle.promise_totals.proofs.WrittenLaws.{lowpass_written, spec_written, halfband_written, gaussian_written, channelizer_written}
 use Rattle.promise_totals.specs.Mirror.{halfband_mirrored, halfband_zeros}
-use Rattle.promise_totals.specs.Slices.{IsDone, SliceTotals, lowpass_filled, spec_filled, gaussian_filled, channelizer_filled, by_taps, halfband_filled, halfband_mirrors}
-use Rattle.promise_totals.specs.Filter.{FilterTotal, WholeTaps, whole_taps_lem, filter_total, conversion_accepted}
+use Rattle.promise_totals.specs.Slices.{IsDone, SliceTotals}
+use Rattle.promise_totals.proofs.SlicesLaws.{lowpass_filled, spec_filled, gaussian_filled, channelizer_filled, by_taps, halfband_filled, halfband_mirrors}
+use Rattle.promise_totals.specs.Filter.{FilterTotal}
+use Rattle.promise_totals.proofs.FilterLaws.{WholeTaps, whole_taps_lem, filter_total, conversion_accepted}
 
 -- ---- the premises
 pub record Premises (r : Report) (after : List ℕ) : Type 0 where

@@ -17,7 +17,8 @@ use Rattle.laws.specs.Filled.{tabulate, tabulate_below, length_tabulate}
 use Rattle.laws.specs.Floor.{floor_z}
 use Rattle.laws.specs.Quotients.{quotients, quotients_length}
 use Rattle.laws.specs.SumError.{total, Each}
-use Rattle.laws.specs.Sums.{sum_to, sum_of_list}
+use Rattle.laws.specs.Sums.{sum_to}
+use Rattle.laws.proofs.SumsLaws.{sum_of_list}
 use Rattle.laws.specs.Totals.{sum_z, normalized_f64}
 use Rattle.laws.specs.Units.{nought}
 use Rattle.math_round.specs.Whole.{abs_of}

@@ -7,7 +7,7 @@ use Rattle.verdict.specs.declared.Refusal.TheVariants.{Plain}
 use Rattle.fir_sinc.specs.declared.window.Window.{Window}
 use Rattle.fir_sinc.specs.declared.window.Window.TheVariants.{Hann, Hamming, Blackman, Kaiser, Cosines}
 use Rattle.fir_lowpass.specs.Lowpass.{lowpass_with, lowpass_of, outcome_of}
-use Rattle.fir_lowpass.specs.LowpassLaws.{with_count, lowpass_count}
+use Rattle.fir_lowpass.proofs.LowpassLaws.{with_count, lowpass_count}
 use Rattle.fir_lowpass.specs.declared.lowpass.Lowpass.{Lowpass}
 use Rattle.fir_lowpass.specs.declared.lowpass.Designed.{Designed}
 use Rattle.fir_lowpass.specs.declared.lowpass.Designed.TheVariants.{Refused}

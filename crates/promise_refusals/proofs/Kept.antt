@@ -37,7 +37,8 @@ use Rattle.c_formats.specs.Conversions.{floats, lengths_of, stored_of, ConvertsB
 use Rattle.c_formats.specs.ConversionLaws.{right_lengths, count}
 use Rattle.promise_refusals.specs.Demand.{Filled, FilledOrKept, LoadedOrNone, element_at, StopsAt, ConvertedOrKept}
 use Rattle.promise_refusals.specs.Verdicts.{of_loading}
-use Rattle.promise_refusals.specs.Listed.{Listed, never_zero, numbered, outcome_heard, done_heard, loading_heard}
+use Rattle.promise_refusals.specs.Listed.{Listed}
+use Rattle.promise_refusals.proofs.ListedLaws.{never_zero, numbered, outcome_heard, done_heard, loading_heard}
 use Rattle.promise_refusals.specs.Exports.{load_bytes_lem}
 use Rattle.promise_refusals.specs.Judgements.{lengths_listed, taken_listed, then_listed}
 
