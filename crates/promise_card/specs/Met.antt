@@ -19,7 +19,7 @@ use Rattle.ticket_record.specs.Record.{field_bytes, record_of}
 use Rattle.ticket_design.specs.Design.{float, ticket_outcome, ticket_bytes}
 use Rattle.c_lowpass.specs.Lowpass.{lowpass_bytes}
 use Rattle.promise_totals.proofs.WrittenLaws.{of_writes}
-use Rattle.promise_totals.proofs.Met.{met, lowpass_ticket, lowpass_met, Stands, itself, stands, of_size}
+use Rattle.promise_totals.proofs.MetTickets.{met, lowpass_ticket, lowpass_met, Stands, itself, stands, of_size}
 use Rattle.promise_card.specs.TicketsLaws.{ticket_sound}
 
 -- 3FD0000000000000 and 3FF0000000000000

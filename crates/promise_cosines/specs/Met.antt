@@ -20,7 +20,7 @@ use Rattle.win_cosines.specs.Load.{cosines_of}
 use Rattle.fir_sinc.specs.declared.window.Window.TheVariants.{Cosines}
 use Rattle.ticket_codes.specs.declared.Coded.{Coded}
 use Rattle.ticket_codes.specs.declared.Coded.TheVariants.{Known}
-use Rattle.promise_totals.proofs.Met.{all, met, Stands, itself, stands, of_size}
+use Rattle.promise_totals.proofs.MetTickets.{all, met, Stands, itself, stands, of_size}
 
 -- Blackman and Harris's window, loaded: in 40 bytes 5 taps
 abbrev pub harris_loaded : Coded

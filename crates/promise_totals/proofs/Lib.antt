@@ -1,5 +1,5 @@
 pub mod Normalised
-pub mod Met
+pub mod MetTickets
 pub mod WrittenLaws
 pub mod FilterLaws
 pub mod SlicesLaws
