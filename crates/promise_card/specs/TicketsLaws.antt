@@ -35,7 +35,7 @@ use Rattle.promise_refusals.specs.Demand.{listed}
 use Rattle.promise_refusals.specs.Listed.{Listed}
 use Rattle.promise_refusals.proofs.ListedLaws.{never_zero}
 use Rattle.promise_refusals.specs.Judgements.{whole_listed, lowpass_listed, spec_design_listed, halfband_listed, gaussian_listed, gaussian_fitted_listed, rrc_listed, rrc_fitted_listed, channelizer_listed, channelizer_fitted_listed}
-use Rattle.promise_totals.specs.Sound.{Sound, lowpass_bytes_sound, spec_bytes_sound, halfband_bytes_sound, gaussian_bytes_sound, channelizer_bytes_sound}
+use Rattle.promise_totals.proofs.Sound.{Sound, lowpass_bytes_sound, spec_bytes_sound, halfband_bytes_sound, gaussian_bytes_sound, channelizer_bytes_sound}
 use Rattle.promise_totals.proofs.WrittenLaws.{of_writes}
 use Rattle.promise_totals.proofs.FilterLaws.{filter_total, whole_taps_lem}
 use Rattle.promise_totals.specs.Mirror.{WhereMade, bytes_symmetric, mirrored_written, zeros_written}

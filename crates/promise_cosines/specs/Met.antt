@@ -13,7 +13,7 @@ use Rattle.math_numbers.specs.Numbers.{positive}
 use Rattle.math_round.specs.Whole.{floor_of, abs_of, as_float}
 use Rattle.verdict.specs.Outcome.{Outcome}
 use Rattle.c_lowpass.specs.Lowpass.{lowpass_bytes}
-use Rattle.promise_totals.specs.Sound.{lowpass_bytes_sound}
+use Rattle.promise_totals.proofs.Sound.{lowpass_bytes_sound}
 use Rattle.promise_totals.proofs.WrittenLaws.{lowpass_written}
 use Rattle.fir_lowpass.specs.Lowpass as Lowpass
 use Rattle.win_cosines.specs.Load.{cosines_of}

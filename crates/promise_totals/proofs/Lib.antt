@@ -3,3 +3,5 @@ pub mod MetTickets
 pub mod WrittenLaws
 pub mod FilterLaws
 pub mod SlicesLaws
+pub mod Sound
+pub mod Kinds

@@ -56,7 +56,7 @@ use Rattle.fir_halfband.specs.Halfband.{distance}
 use Rattle.fir_halfband.specs.HalfbandLaws.{halfband_count}
 use Rattle.fir_halfband.specs.Mirror.{IsZero}
 use Rattle.promise_totals.specs.Bounds.{TapTotal, Q15Total, unsaturated}
-use Rattle.promise_totals.specs.Sound.{Sound, lowpass_bytes_sound, spec_bytes_sound, halfband_bytes_sound, gaussian_bytes_sound, channelizer_bytes_sound}
+use Rattle.promise_totals.proofs.Sound.{Sound, lowpass_bytes_sound, spec_bytes_sound, halfband_bytes_sound, gaussian_bytes_sound, channelizer_bytes_sound}
 use Rattle.promise_totals.specs.Written.{Accepted, divisor_in, taps_in, Totals}
 use Rattle.promise_totals.proofs.WrittenLaws.{lowpass_written, spec_written, halfband_written, gaussian_written, channelizer_written}
 use Rattle.promise_totals.specs.Mirror.{halfband_mirrored, halfband_zeros}

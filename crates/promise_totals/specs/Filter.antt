@@ -38,10 +38,7 @@ use Rattle.c_lowpass.specs.Spec.{spec_bytes}
 use Rattle.c_pulses.specs.Buffers.{halfband_bytes, gaussian_bytes}
 use Rattle.promise_refusals.proofs.Kept.{Converted, accepted_conversion}
 use Rattle.promise_totals.specs.Bounds.{sizes, unsaturated}
-use Rattle.promise_totals.proofs.Normalised.{taken_finite}
-use Rattle.promise_totals.specs.Sound.{Sound, lowpass_bytes_sound, spec_bytes_sound, halfband_bytes_sound, gaussian_bytes_sound, channelizer_bytes_sound}
 use Rattle.promise_totals.specs.Written.{Accepted, divisor_in, taps_in, Totals}
-use Rattle.promise_totals.proofs.WrittenLaws.{by_writes, lowpass_written, spec_written, halfband_written, gaussian_written, channelizer_written}
 use Rattle.promise_totals.specs.ReadCodes.{codes_back, q15_fits}
 
 -- ---- the statement

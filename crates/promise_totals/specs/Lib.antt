@@ -1,6 +1,4 @@
 pub mod Bounds
-pub mod Kinds
-pub mod Sound
 pub mod Written
 pub mod Mirror
 pub mod Conversions

@@ -22,7 +22,7 @@ use Rattle.fir_halfband.specs.declared.HalfbandDesigned.TheVariants.{Ready, Refu
 use Rattle.c_pulses.specs.Buffers.{halfband_bytes}
 use Rattle.verdict.specs.Reports.{outcome_report}
 use Rattle.wire.specs.Writes.{Writes, written}
-use Rattle.promise_totals.specs.Sound.{Sound, halfband_bytes_sound}
+use Rattle.promise_totals.proofs.Sound.{Sound, halfband_bytes_sound}
 use Rattle.promise_totals.proofs.WrittenLaws.{by_writes}
 use Rattle.laws.specs.Cases.{either_way}
 

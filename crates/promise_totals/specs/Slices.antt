@@ -29,8 +29,6 @@ use Rattle.fir_channelizer.specs.Channelizer as Channelizer
 use Rattle.fir_channelizer.specs.ChannelizerLaws.{channelizer_count}
 use Rattle.ticket_slices.specs.Agree.{agree}
 use Rattle.promise_totals.specs.Bounds.{TapTotal, Q15Total, unsaturated}
-use Rattle.promise_totals.proofs.Normalised.{Promised, normalised_promised}
-use Rattle.promise_totals.specs.Sound.{Made, lowpass_made, spec_made, halfband_made, gaussian_made, channelizer_made}
 use Rattle.promise_totals.specs.Mirror.{WhereMade, halfband_symmetric}
 
 -- ---- the statements, of a function's answer r and of its slice afterwards

@@ -23,8 +23,6 @@ use Rattle.verdict.specs.Reports.{outcome_report}
 use Rattle.c_lowpass.specs.Spec.{spec_bytes}
 use Rattle.wire.specs.Writes.{Writes, written}
 use Rattle.promise_totals.specs.Bounds.{TapTotal, Q15Total, unsaturated}
-use Rattle.promise_totals.proofs.Normalised.{Promised, normalised_promised}
-use Rattle.promise_totals.specs.Sound.{Sound, lowpass_bytes_sound, design_lowpass_sound, design_cutoff_sound, design_beta_sound, spec_bytes_sound, halfband_bytes_sound, gaussian_bytes_sound, channelizer_bytes_sound}
 
 -- ---- the statement, of an export's report r and of its buffer afterwards
 -- "accepted": the report's number is 0, none of the refusals'
