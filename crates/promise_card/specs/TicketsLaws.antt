@@ -38,7 +38,8 @@ use Rattle.promise_refusals.specs.Judgements.{whole_listed, lowpass_listed, spec
 use Rattle.promise_totals.proofs.Sound.{Sound, lowpass_bytes_sound, spec_bytes_sound, halfband_bytes_sound, gaussian_bytes_sound, channelizer_bytes_sound}
 use Rattle.promise_totals.proofs.WrittenLaws.{of_writes}
 use Rattle.promise_totals.proofs.FilterLaws.{filter_total, whole_taps_lem}
-use Rattle.promise_totals.specs.Mirror.{WhereMade, bytes_symmetric, mirrored_written, zeros_written}
+use Rattle.promise_totals.specs.Mirror.{WhereMade}
+use Rattle.promise_totals.proofs.MirrorLaws.{bytes_symmetric, mirrored_written, zeros_written}
 use Rattle.promise_card.specs.ReadsLaws.{read_coded}
 use Rattle.promise_card.specs.Tickets.{Divided, TicketTotals, TicketFilters, TicketMirrors, DesignsRead}
 

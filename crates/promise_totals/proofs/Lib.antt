@@ -4,4 +4,5 @@ pub mod WrittenLaws
 pub mod FilterLaws
 pub mod SlicesLaws
 pub mod Sound
-pub mod Kinds
+pub mod KindLaws
+pub mod MirrorLaws

@@ -59,7 +59,7 @@ use Rattle.promise_totals.specs.Bounds.{TapTotal, Q15Total, unsaturated}
 use Rattle.promise_totals.proofs.Sound.{Sound, lowpass_bytes_sound, spec_bytes_sound, halfband_bytes_sound, gaussian_bytes_sound, channelizer_bytes_sound}
 use Rattle.promise_totals.specs.Written.{Accepted, divisor_in, taps_in, Totals}
 use Rattle.promise_totals.proofs.WrittenLaws.{lowpass_written, spec_written, halfband_written, gaussian_written, channelizer_written}
-use Rattle.promise_totals.specs.Mirror.{halfband_mirrored, halfband_zeros}
+use Rattle.promise_totals.proofs.MirrorLaws.{halfband_mirrored, halfband_zeros}
 use Rattle.promise_totals.specs.Slices.{IsDone, SliceTotals}
 use Rattle.promise_totals.proofs.SlicesLaws.{lowpass_filled, spec_filled, gaussian_filled, channelizer_filled, by_taps, halfband_filled, halfband_mirrors}
 use Rattle.promise_totals.specs.Filter.{FilterTotal}

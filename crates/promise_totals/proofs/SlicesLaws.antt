@@ -30,7 +30,8 @@ use Rattle.ticket_slices.specs.Agree.{agree}
 use Rattle.promise_totals.specs.Bounds.{TapTotal, Q15Total, unsaturated}
 use Rattle.promise_totals.proofs.Normalised.{Promised, normalised_promised}
 use Rattle.promise_totals.proofs.Sound.{Made, lowpass_made, spec_made, halfband_made, gaussian_made, channelizer_made}
-use Rattle.promise_totals.specs.Mirror.{WhereMade, halfband_symmetric}
+use Rattle.promise_totals.specs.Mirror.{WhereMade}
+use Rattle.promise_totals.proofs.MirrorLaws.{halfband_symmetric}
 use Rattle.promise_totals.specs.Slices.{IsDone, SliceMirrors, SliceTotals, last_divisor}
 
 -- ---- of any outcome

@@ -44,7 +44,7 @@ use Rattle.promise_refusals.specs.Listed.{Listed}
 use Rattle.promise_refusals.proofs.ListedLaws.{never_zero}
 use Rattle.promise_refusals.specs.Exports as Exports
 use Rattle.promise_totals.proofs.Normalised.{Normalised}
-use Rattle.promise_totals.proofs.Kinds.{with_normalised, lowpass_tap_fits, halfband_normalised, halfband_tap_fits, gaussian_normalised, gaussian_tap_fits}
+use Rattle.promise_totals.proofs.KindLaws.{with_normalised, lowpass_tap_fits, halfband_normalised, halfband_tap_fits, gaussian_normalised, gaussian_tap_fits}
 
 -- ---- what is shown
 -- of an accepted ticket the taps, each an f64

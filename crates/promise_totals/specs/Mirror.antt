@@ -22,8 +22,6 @@ use Rattle.fir_halfband.specs.declared.HalfbandDesigned.TheVariants.{Ready, Refu
 use Rattle.c_pulses.specs.Buffers.{halfband_bytes}
 use Rattle.verdict.specs.Reports.{outcome_report}
 use Rattle.wire.specs.Writes.{Writes, written}
-use Rattle.promise_totals.proofs.Sound.{Sound, halfband_bytes_sound}
-use Rattle.promise_totals.proofs.WrittenLaws.{by_writes}
 use Rattle.laws.specs.Cases.{either_way}
 
 -- ---- the taps, wherever they are put
@@ -35,18 +33,6 @@ abbrev pub WhereMade : Outcome → Type 0
 WhereMade (Outcome.Designed n divisor tap) = Symmetric n tap
 WhereMade (Outcome.Refused why) = Unit {0}
 
-pub halfband_symmetric : (beta : Float) (n : ℕ) → WhereMade (outcome_of (halfband_of beta n))
-halfband_symmetric beta n = go (halfband_of beta n) refl
-  where
-    go : (d : HalfbandDesigned) → halfband_of beta n ≡ d → WhereMade (outcome_of d)
-    go (Ready d) e =
-        let count : d.n ≡ n = ap (λ (z : HalfbandDesign). z.n) (accepted beta n d e).is in
-        subst (λ (m : ℕ). Symmetric m (tap_of d)) (sym count) (record { mirrored = mirror beta n d e; zeros = zero_taps beta n d e })
-    go (Refused why) e = tt
-
-pub bytes_symmetric : (beta : Float) (len : ℕ) → WhereMade (halfband_bytes beta len)
-bytes_symmetric beta len = either_way WhereMade (eqb (len % 8) 0) (outcome_of (halfband_of beta (len / 8))) (Outcome.Refused (Refusal.Length (len - len % 8) len)) (halfband_symmetric beta (len / 8)) tt
-
 -- ---- the statements, of the export's report r and of its buffer afterwards
 -- "accepted": the report's number is 0. n taps: n is the report's count, tap i the eight bytes from 8 i on
 -- bit for bit the same as its mirror image
@@ -57,32 +43,3 @@ Mirrored r after = r.number ≡ 0 → (i : ℕ) → i < r.count → take 8 (drop
 -- middle"
 abbrev pub Vanishes : Report → List ℕ → Type 0
 Vanishes r after = r.number ≡ 0 → (i : ℕ) → i < r.count → distance r.count i % 2 ≡ 0 → (distance r.count i ≡ 0 → ⊥) → IsZero (float_at after (8 * i))
-
--- ---- of any outcome
-tap_bytes : (n : ℕ) (tap : ℕ → Float) (i : ℕ) → i < n → take 8 (drop (8 * i) (chunks n (λ i. float_bytes (tap i)))) ≡ float_bytes (tap i)
-tap_bytes n tap i h = chunk_at 8 (λ i. float_bytes (tap i)) (λ i. length_bytes 8 (to_bits binary64 (tap i))) n i h
-
-symmetric_mirrored : (o : Outcome) (before : List ℕ) → Sound o → WhereMade o → Mirrored (outcome_report o) (written float_bytes o before)
-unfolding accepted_of
-symmetric_mirrored (Outcome.Designed n divisor tap) before sound s e i h = tap_bytes n tap i h ∙ ap float_bytes (s.mirrored i h) ∙ sym (tap_bytes n tap (n - 1 - i) (omega arith))
-symmetric_mirrored (Outcome.Refused why) before numbered s e i h = absurd (numbered e)
-
-symmetric_vanishes : (o : Outcome) (before : List ℕ) → Sound o → WhereMade o → Vanishes (outcome_report o) (written float_bytes o before)
-unfolding accepted_of
-symmetric_vanishes (Outcome.Designed n divisor tap) before (taps, fit) s e i h p q = subst IsZero (sym (ap float_of (tap_bytes n tap i h) ∙ float_bytes_lem (tap i) (fit i))) (s.zeros i h p q)
-symmetric_vanishes (Outcome.Refused why) before numbered s e i h p q = absurd (numbered e)
-
-module _ {o : Outcome} {before after : List ℕ} {r : Report} (sound : Sound o) (made : WhereMade o) (w : Writes float_bytes o before r after) where
-  pub mirrored_written : Mirrored r after
-  mirrored_written = by_writes Mirrored w (symmetric_mirrored o before sound made)
-
-  pub zeros_written : Vanishes r after
-  zeros_written = by_writes Vanishes w (symmetric_vanishes o before sound made)
-
--- ---- of `pel_halfband`; `Writes` is what it ensures
-module _ (beta : Float) (before after : List ℕ) (r : Report) (w : Writes float_bytes (halfband_bytes beta (length before)) before r after) where
-  pub halfband_mirrored : Mirrored r after
-  halfband_mirrored = mirrored_written (halfband_bytes_sound beta (length before)) (bytes_symmetric beta (length before)) w
-
-  pub halfband_zeros : Vanishes r after
-  halfband_zeros = zeros_written (halfband_bytes_sound beta (length before)) (bytes_symmetric beta (length before)) w

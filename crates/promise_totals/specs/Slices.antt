@@ -29,7 +29,7 @@ use Rattle.fir_channelizer.specs.Channelizer as Channelizer
 use Rattle.fir_channelizer.specs.ChannelizerLaws.{channelizer_count}
 use Rattle.ticket_slices.specs.Agree.{agree}
 use Rattle.promise_totals.specs.Bounds.{TapTotal, Q15Total, unsaturated}
-use Rattle.promise_totals.specs.Mirror.{WhereMade, halfband_symmetric}
+use Rattle.promise_totals.specs.Mirror.{WhereMade}
 
 -- ---- the statements, of a function's answer r and of its slice afterwards
 -- "accepted": the answer is `Done`

@@ -3,7 +3,7 @@
 use Rattle.promise_refusals.specs.Exports.{halfband_bytes_lem}
 use Rattle.promise_refusals.proofs.Kept.{filled_or_kept}
 use Rattle.promise_settling.specs.TakenLaws.{halfband_taken}
-use Rattle.promise_totals.specs.Mirror.{halfband_mirrored, halfband_zeros}
+use Rattle.promise_totals.proofs.MirrorLaws.{halfband_mirrored, halfband_zeros}
 use Rattle.promise_totals.proofs.WrittenLaws.{halfband_written}
 use lib.ListN.{length}
 use borrow.Author.Rules.{rules}
