@@ -1,7 +1,6 @@
 -- What comes of the numbers of a ticket: why they are none, or what comes of the ticket. Definitions only.
 use Rattle.std.specs.Prelude.{ℕ}
 use Rattle.verdict.specs.Outcome.{Outcome}
-use Rattle.verdict.specs.Outcome as Outcome
 use Rattle.ticket_kinds.specs.declared.numbers.Formed.{Formed}
 use Rattle.ticket_kinds.specs.declared.numbers.Formed.TheVariants.{Known, Refused}
 use Rattle.ticket_design.specs.Design.{ticket_bytes, judgement_of}

@@ -3,7 +3,6 @@ use Rattle.std.specs.Prelude.{ℕ, ◌≡◌, List, length}
 use Rattle.verdict.specs.Reports.{done_report}
 use Rattle.verdict.specs.declared.Report.{Report}
 use Rattle.verdict.specs.declared.Verdict.{Verdict}
-use Rattle.verdict.specs.declared.Verdict.TheVariants as Verdict
 use Rattle.ticket_kinds.specs.declared.numbers.Formed.{Formed}
 use Rattle.ticket_kinds.specs.declared.numbers.Formed.TheVariants.{Known, Refused}
 use Rattle.ticket_record.specs.Record.{write_of, left_by}

@@ -7,7 +7,6 @@ use Rattle.wire.specs.Bytes.{floats_in}
 use Rattle.win_shapes.specs.declared.cosines.Cosines.{Cosines}
 use Rattle.win_cosines.specs.Load.{load_of}
 use Rattle.win_cosines.specs.declared.Loading.{Loading}
-use Rattle.win_cosines.specs.declared.Loading.TheVariants as Loading
 use Rattle.c_cosines.specs.declared.load.Loaded.{Loaded}
 
 -- the f64s of a source of bytes

@@ -9,7 +9,6 @@ use Rattle.fmt_q15.specs.Q15 as Q15
 use Rattle.fmt_q14.specs.Q14 as Q14
 use Rattle.fmt_q15.specs.declared.q15.Coded.TheVariants as Coded
 use Rattle.c_formats.specs.declared.element.Format.{Format}
-use Rattle.c_formats.specs.declared.element.Format.TheVariants as Format
 use Rattle.c_formats.specs.declared.element.Encoded.TheVariants.{Pattern, Refused}
 use Rattle.c_formats.specs.Formats.{width_of, takes_of, pattern_of, outside_of, encoded_of, coded_of}
 

@@ -7,10 +7,8 @@ use Rattle.verdict.specs.declared.Refusal.{Refusal}
 use Rattle.fmt_q15.specs.Q15 as Q15
 use Rattle.fmt_q14.specs.Q14 as Q14
 use Rattle.fmt_q15.specs.declared.q15.Coded.{Coded}
-use Rattle.fmt_q15.specs.declared.q15.Coded.TheVariants as Coded
 use Rattle.fmt_f32.specs.Single.{single_of, any_outside}
 use Rattle.c_formats.specs.declared.element.Format.{Format}
-use Rattle.c_formats.specs.declared.element.Format.TheVariants as Format
 use Rattle.c_formats.specs.declared.element.Encoded.{Encoded}
 use Rattle.c_formats.specs.declared.element.Encoded.TheVariants.{Pattern, Refused}
 

@@ -9,11 +9,8 @@ use Rattle.verdict.specs.declared.Report.{Report}
 use Rattle.verdict.specs.Report.{report_of, accepted_of}
 use Rattle.math_bessel.specs.declared.Series.{Series}
 use Rattle.fir_length.specs.declared.order.Order.{Order}
-use Rattle.fir_length.specs.declared.order.Order.TheVariants as Order
 use Rattle.fir_delay.specs.declared.Delayed.{Delayed}
-use Rattle.fir_delay.specs.declared.Delayed.TheVariants as Delayed
 use Rattle.fmt_q15.specs.declared.q15.Coded.{Coded}
-use Rattle.fmt_q15.specs.declared.q15.Coded.TheVariants as Coded
 
 -- taps and beta
 abbrev pub order_report : Order → Report

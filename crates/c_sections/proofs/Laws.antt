@@ -15,7 +15,6 @@ use Rattle.verdict.specs.declared.Refusal.TheVariants.{Length}
 use Rattle.verdict.specs.declared.Report.{Report}
 use Rattle.verdict.specs.Report.{report_of, accepted_of}
 use Rattle.verdict.specs.Outcome.{Outcome, stored, Fills}
-use Rattle.verdict.specs.Outcome as Outcome
 use Rattle.verdict.specs.declared.Verdict.{Verdict}
 use Rattle.iir_biquad.specs.declared.biquad.Response.{Response}
 use Rattle.verdict.specs.declared.Verdict.TheVariants.{Done}

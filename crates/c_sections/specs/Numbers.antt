@@ -5,7 +5,6 @@ use Rattle.laws.specs.Binary64.{whole}
 use Rattle.verdict.specs.Numbers.{bad_code}
 use Rattle.verdict.specs.declared.Refusal.TheVariants.{Plain, Length}
 use Rattle.verdict.specs.Outcome.{Outcome}
-use Rattle.verdict.specs.Outcome as Outcome
 use Rattle.verdict.specs.declared.Verdict.{Verdict}
 use Rattle.verdict.specs.declared.Verdict.TheVariants.{Done, Refused}
 use Rattle.iir_biquad.specs.Biquad.{biquad_of}

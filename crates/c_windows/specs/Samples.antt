@@ -8,7 +8,6 @@ use Rattle.wire.specs.Writes.{whole_elements}
 use Rattle.verdict.specs.Numbers.{bad_code}
 use Rattle.verdict.specs.declared.Refusal.TheVariants.{Plain}
 use Rattle.verdict.specs.Outcome.{Outcome, where_passed}
-use Rattle.verdict.specs.Outcome as Outcome
 use Rattle.fmt_q15.specs.Q15.{q15_of}
 use Rattle.fmt_f32.specs.Single.{single_of}
 use Rattle.win_sampled.specs.Shapes.{judgement_of, window_at}

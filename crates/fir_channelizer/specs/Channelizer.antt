@@ -15,13 +15,10 @@ use Rattle.verdict.specs.Numbers.{bad_frequency, bad_transition, bad_attenuation
 use Rattle.verdict.specs.declared.Refusal.TheVariants as Refusal
 use Rattle.fir_length.specs.Kaiser.{beta_of, estimate}
 use Rattle.verdict.specs.declared.Length.{Length}
-use Rattle.verdict.specs.declared.Length.TheVariants as Length
 use Rattle.fir_lowpass.specs.Lowpass.{where_passed, lowpass_of}
 use Rattle.fir_sinc.specs.declared.window.Window.TheVariants.{Kaiser}
 use Rattle.fir_lowpass.specs.declared.lowpass.Designed.{Designed}
-use Rattle.fir_lowpass.specs.declared.lowpass.Designed.TheVariants as Designed
 use Rattle.verdict.specs.declared.Verdict.{Verdict}
-use Rattle.verdict.specs.declared.Verdict.TheVariants as Verdict
 
 -- ---- the judgement
 -- a power of two from 4 to 256

@@ -9,20 +9,16 @@ use Rattle.laws.specs.Floor.{upward}
 use Rattle.laws.specs.Tests.{both}
 use Rattle.verdict.specs.Numbers.{bad_count}
 use Rattle.verdict.specs.declared.Refusal.{Refusal}
-use Rattle.verdict.specs.declared.Refusal.TheVariants as Refusal
 use Rattle.fir_length.specs.Kaiser.{beta_of, estimate}
 use Rattle.verdict.specs.declared.Length.{Length}
-use Rattle.verdict.specs.declared.Length.TheVariants as Length
 use Rattle.fir_lowpass.specs.Lowpass.{where_passed, lowpass_of, outcome_of}
 use Rattle.fir_lowpass.proofs.LowpassLaws.{never, prepares_as}
 use Rattle.fir_lowpass.specs.Cached.{PreparesLowpass}
 use Rattle.fir_sinc.specs.declared.window.Window.TheVariants.{Kaiser}
 use Rattle.fir_lowpass.specs.declared.lowpass.Lowpass.{Lowpass}
 use Rattle.fir_lowpass.specs.declared.lowpass.Designed.{Designed}
-use Rattle.fir_lowpass.specs.declared.lowpass.Designed.TheVariants as Designed
 use Rattle.fir_channelizer.specs.Channelizer.{channels_taken, branch_taken, edges_of, taps_in, channelizer_taps_of, channelizer_lowpass_of, fitted_of}
 use Rattle.verdict.specs.declared.Verdict.{Verdict}
-use Rattle.verdict.specs.declared.Verdict.TheVariants as Verdict
 use Rattle.verdict.specs.Counted.{Counted, where_equal, fitted}
 
 -- ---- the numbers that are taken

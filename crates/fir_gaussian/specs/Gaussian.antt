@@ -10,7 +10,6 @@ use Rattle.verdict.specs.Numbers.{bad_shape, bad_count}
 use Rattle.verdict.specs.declared.Refusal.TheVariants.{Range, Length}
 use Rattle.fir_cache.specs.Cached.{CachesOf}
 use Rattle.verdict.specs.Outcome.{Outcome}
-use Rattle.verdict.specs.Outcome as Outcome
 use Rattle.fir_gaussian.specs.declared.gaussian_design.Gaussian.{Gaussian}
 use Rattle.fir_gaussian.specs.declared.gaussian_design.GaussianDesigned.{GaussianDesigned}
 use Rattle.fir_gaussian.specs.declared.gaussian_design.GaussianDesigned.TheVariants.{Ready, Refused}

@@ -10,7 +10,6 @@ use Rattle.fir_lowpass.specs.Lowpass.{usable}
 use Rattle.fir_lowpass.specs.Cached.{Caches}
 use Rattle.fir_lowpass.specs.declared.lowpass.Lowpass.{Lowpass}
 use Rattle.fir_lowpass.specs.declared.lowpass.Designed.{Designed}
-use Rattle.fir_lowpass.specs.declared.lowpass.Designed.TheVariants as Designed
 use Rattle.fir_halfband.specs.Halfband.{length_taken, quarter_of, unscaled, divisor_of, halfband_in, halfband_of, tap_of, PreparesHalfband, outcome_of}
 use Rattle.fir_halfband.specs.declared.HalfbandDesign.{HalfbandDesign}
 use Rattle.fir_halfband.specs.declared.HalfbandDesigned.{HalfbandDesigned}

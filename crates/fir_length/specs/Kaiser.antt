@@ -12,9 +12,7 @@ use Rattle.math_round.specs.Whole.{ceil_of, abs_of}
 use Rattle.verdict.specs.Numbers.{bad_transition, bad_attenuation}
 use Rattle.verdict.specs.declared.Refusal.TheVariants.{Plain, Range}
 use Rattle.fir_length.specs.declared.order.Order.{Order}
-use Rattle.fir_length.specs.declared.order.Order.TheVariants as Order
 use Rattle.verdict.specs.declared.Length.{Length}
-use Rattle.verdict.specs.declared.Length.TheVariants as Length
 
 -- ---- beta
 unfoldable pub beta_of : Float → Float

@@ -10,7 +10,6 @@ use Rattle.verdict.specs.Numbers.{bad_rate, bad_frequency, bad_attenuation, bad_
 use Rattle.verdict.specs.declared.Refusal.TheVariants.{Plain, Range}
 use Rattle.verdict.specs.declared.Verdict.TheVariants as Verdict
 use Rattle.verdict.specs.Outcome.{Outcome}
-use Rattle.verdict.specs.Outcome as Outcome
 use Rattle.fir_sinc.specs.Windows.{norm_of}
 use Rattle.fir_sinc.specs.Taps.{raw_at}
 use Rattle.fir_sinc.specs.declared.window.Window.{Window}

@@ -11,9 +11,7 @@ use Rattle.math_numbers.specs.Numbers.{positive}
 use Rattle.verdict.specs.Numbers.{bad_rate, bad_frequency, bad_attenuation, bad_count, bad_sum, not_settled}
 use Rattle.verdict.specs.declared.Refusal.TheVariants.{Plain, Range}
 use Rattle.verdict.specs.declared.Verdict.{Verdict}
-use Rattle.verdict.specs.declared.Verdict.TheVariants as Verdict
 use Rattle.verdict.specs.Outcome.{Outcome}
-use Rattle.verdict.specs.Outcome as Outcome
 use Rattle.win_settling.specs.Settling.{kaiser_settles}
 use Rattle.fir_sinc.specs.Windows.{norm_of}
 use Rattle.fir_sinc.specs.Taps.{raw_at}

@@ -5,7 +5,6 @@ use Rattle.laws.specs.Binary64.{whole}
 use Rattle.verdict.specs.Numbers.{bad_code}
 use Rattle.verdict.specs.declared.Refusal.TheVariants.{Plain}
 use Rattle.verdict.specs.declared.Verdict.{Verdict}
-use Rattle.verdict.specs.declared.Verdict.TheVariants as Verdict
 use Rattle.fir_sinc.specs.declared.window.Window.{Window}
 use Rattle.fir_sinc.specs.declared.window.Window.TheVariants.{Hann, Hamming, Blackman, Kaiser, Cosines}
 use Rattle.fir_lowpass.specs.Lowpass.{lowpass_with, lowpass_of}

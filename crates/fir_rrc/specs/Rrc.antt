@@ -12,10 +12,8 @@ use Rattle.math_sqrt.specs.Sqrt.{sqrt_of}
 use Rattle.math_trig.specs.Trig.{sin_of, cos_of}
 use Rattle.verdict.specs.Numbers.{bad_shape, bad_count}
 use Rattle.verdict.specs.declared.Length.{Length}
-use Rattle.verdict.specs.declared.Length.TheVariants as Length
 use Rattle.verdict.specs.declared.Refusal.TheVariants as Refusal
 use Rattle.verdict.specs.Outcome.{Outcome}
-use Rattle.verdict.specs.Outcome as Outcome
 use Rattle.fir_rrc.specs.declared.design.Rrc.{Rrc}
 use Rattle.fir_rrc.specs.declared.design.RrcDesigned.{RrcDesigned}
 use Rattle.fir_rrc.specs.declared.design.RrcDesigned.TheVariants.{Ready, Refused}

@@ -10,7 +10,6 @@ use Rattle.win_shapes.specs.Windows.{hann_at, hamming_at, blackman_at, cosines_a
 use Rattle.win_shapes.specs.Steps.{argument_of}
 use Rattle.win_shapes.specs.Steps as Steps
 use Rattle.win_shapes.specs.declared.curve.Curve.{Curve}
-use Rattle.win_shapes.specs.declared.curve.Curve.TheVariants as Curve
 use Rattle.fir_sinc.specs.Windows.{norm_of, shape_at, window_at}
 
 unfoldable pub curve_of : Window → Curve

@@ -9,13 +9,10 @@ use Rattle.verdict.specs.Numbers.{bad_rate, bad_frequency, bad_transition}
 use Rattle.verdict.specs.declared.Refusal.TheVariants as Refusal
 use Rattle.fir_length.specs.Kaiser.{order_of}
 use Rattle.fir_length.specs.declared.order.Order.{Order}
-use Rattle.fir_length.specs.declared.order.Order.TheVariants as Order
 use Rattle.verdict.specs.declared.Length.{Length}
-use Rattle.verdict.specs.declared.Length.TheVariants as Length
 use Rattle.fir_lowpass.specs.Lowpass.{lowpass_of}
 use Rattle.fir_sinc.specs.declared.window.Window.TheVariants.{Kaiser}
 use Rattle.fir_lowpass.specs.declared.lowpass.Designed.{Designed}
-use Rattle.fir_lowpass.specs.declared.lowpass.Designed.TheVariants as Designed
 use Rattle.fir_spec.specs.declared.DesignSpec.{DesignSpec}
 
 unfoldable pub cutoff_taken : Float → Float → Bool

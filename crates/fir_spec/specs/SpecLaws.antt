@@ -3,7 +3,6 @@ use Rattle.std.proofs.Common.{sym}
 use Rattle.std.specs.Prelude.{ℕ, Float}
 use Rattle.verdict.specs.Counted.{Counted, where_equal}
 use Rattle.fir_length.specs.declared.order.Order.{Order}
-use Rattle.fir_length.specs.declared.order.Order.TheVariants as Order
 use Rattle.fir_sinc.specs.declared.window.Window.TheVariants.{Kaiser}
 use Rattle.fir_lowpass.specs.Lowpass.{outcome_of}
 use Rattle.fir_lowpass.proofs.LowpassLaws.{lowpass_count}

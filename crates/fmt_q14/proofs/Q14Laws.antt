@@ -16,7 +16,6 @@ use Rattle.laws.specs.WholeValues.{signed}
 use Rattle.math_round.specs.Whole.{floor_of}
 use Rattle.verdict.specs.declared.Refusal.{Refusal}
 use Rattle.fmt_q15.specs.declared.q15.Coded.{Coded}
-use Rattle.fmt_q15.specs.declared.q15.Coded.TheVariants as Coded
 use Rattle.fmt_q15.specs.Q15.{in16}
 use Rattle.fmt_q14.specs.Q14.{moved, q14_of, takes, outside, q14_tap_of}
 use Rattle.math_round.specs.FloorAs.{rounded, floor_as}

@@ -9,7 +9,6 @@ use Rattle.verdict.specs.declared.Refusal.{Refusal}
 use Rattle.verdict.specs.declared.Refusal.TheVariants.{Element}
 use Rattle.fmt_q15.specs.Q15.{in16}
 use Rattle.fmt_q15.specs.declared.q15.Coded.{Coded}
-use Rattle.fmt_q15.specs.declared.q15.Coded.TheVariants as Coded
 
 -- ---- one number
 unfoldable pub moved : Float → Float

@@ -9,7 +9,6 @@ use Rattle.verdict.specs.declared.Refusal.{Refusal}
 use Rattle.verdict.specs.declared.Refusal.TheVariants.{Element}
 use Rattle.math_round.specs.Whole.{abs_of}
 use Rattle.fmt_q15.specs.declared.q15.Coded.{Coded}
-use Rattle.fmt_q15.specs.declared.q15.Coded.TheVariants as Coded
 
 -- ---- one value
 -- 32768 t + 0.5, whose floor is q

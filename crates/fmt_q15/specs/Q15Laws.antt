@@ -18,7 +18,6 @@ use Rattle.laws.specs.WholeValues.{signed}
 use Rattle.math_round.specs.Whole.{floor_of}
 use Rattle.verdict.specs.declared.Refusal.{Refusal}
 use Rattle.fmt_q15.specs.declared.q15.Coded.{Coded}
-use Rattle.fmt_q15.specs.declared.q15.Coded.TheVariants as Coded
 use Rattle.fmt_q15.specs.Q15.{moved, saturated, in16, code_in, q15_of, takes, outside, q15_tap_of}
 use Rattle.math_round.specs.FloorAs.{rounded, floor_as}
 use Rattle.fmt_q15.specs.WholeFloats.{most, least, by_sign, some, reaches, turned, Cut, cut_some, cut_none}

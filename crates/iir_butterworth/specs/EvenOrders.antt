@@ -9,7 +9,6 @@ use Rattle.math_trig.specs.Trig.{cos_of}
 use Rattle.verdict.specs.Numbers.{bad_frequency, bad_count, bad_code}
 use Rattle.verdict.specs.declared.Refusal.TheVariants.{Plain, Range, Length}
 use Rattle.verdict.specs.Outcome.{Outcome}
-use Rattle.verdict.specs.Outcome as Outcome
 use Rattle.iir_biquad.specs.Biquad.{centre_taken, biquad_of}
 use Rattle.iir_biquad.specs.declared.biquad.Response.{Response}
 use Rattle.iir_butterworth.specs.Butterworth.{response_taken, order_taken, sections_of, angle_of, quality_of, section_at, coef_at, butterworth_of}

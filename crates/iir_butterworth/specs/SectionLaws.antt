@@ -15,7 +15,6 @@ use Rattle.math_round.specs.Whole.{floor_of, abs_of, as_float}
 use Rattle.math_trig.specs.Trig.{sin_of, cos_of}
 use Rattle.verdict.specs.Numbers.{bad_frequency, bad_count, bad_code}
 use Rattle.verdict.specs.Outcome.{Outcome, answered}
-use Rattle.verdict.specs.Outcome as Outcome
 use Rattle.verdict.specs.declared.Verdict.TheVariants as Verdict
 use Rattle.verdict.specs.declared.Refusal.{Refusal}
 use Rattle.verdict.specs.declared.Refusal.TheVariants.{Plain, Range, Length}

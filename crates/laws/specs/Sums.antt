@@ -1,12 +1,8 @@
 -- The sum of g 0, g 1, .., g (n - 1) in that order, from +0, each addition rounded once; and that it is the sum of the
 -- list of them. Assumes nothing.
-use Rattle.std.specs.Prelude.{◌≡◌, refl, List, ℕ, zero, suc, ◌+◌, ◌<◌, Float}
-use Rattle.std.proofs.Common.{sym, ap, ◌∙◌, add-one, arith}
-use Rattle.std.specs.Float.{Format, binary32, binary64}
+use Rattle.std.specs.Prelude.{ℕ, zero, suc, Float}
+use Rattle.std.specs.Float.{Format}
 use Rattle.std.specs.Float.Ieee.{add, of_bits}
-use Rattle.laws.specs.Filled.{tabulate, tabulate_same}
-use Rattle.laws.specs.Units.{nought}
-use Rattle.laws.specs.SumError.{total}
 
 unfoldable pub sum_to : Format → (ℕ → Float) → ℕ → Float
 sum_to f g zero = of_bits f 0

@@ -1,3 +1,2 @@
 // Laws that the other crates cite; no code.
 #![tactic(auto)]
-

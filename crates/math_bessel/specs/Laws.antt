@@ -8,7 +8,7 @@ use Rattle.std.specs.Float.Ieee.{lt, of_int, round, mul}
 use Rattle.std.specs.Float.Ieee.Scale.{finite}
 use Rattle.laws.specs.Binary64.{◌⊕◌, ◌⊗◌, ◌⊘◌, whole, fraction}
 use Rattle.laws.specs.PowersOfTwo.{by_inverse}
-use Rattle.math_bessel.specs.Series.{term, partial, least, small, first_small, terms_of, series_at, series_of, settled}
+use Rattle.math_bessel.specs.Series.{term, partial, least, small, first_small, terms_of, series_at, series_of}
 use Rattle.math_bessel.specs.declared.Series.{Series}
 
 -- one term more

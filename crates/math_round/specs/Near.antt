@@ -1,5 +1,5 @@
 -- A whole number near a small x: x + 3 * 2 ^ 51 less 3 * 2 ^ 51, which is less than 1 away from x. Assumes nothing.
-use Rattle.std.specs.Prelude.{◌≡◌, ℕ, ◌+◌, ◌-◌, ◌*◌, ◌^◌, ◌<◌, ◌≤◌, Bool, true, false, not, T, pos, refl, Float}
+use Rattle.std.specs.Prelude.{◌≡◌, ℕ, ◌+◌, ◌*◌, ◌^◌, ◌<◌, ◌≤◌, Bool, true, false, not, T, pos, refl, Float}
 use Rattle.std.proofs.Common.{sym, ◌∙◌, subst, zero-mul, le_trans, le_of_eq, lt_of_le_of_lt, lt_of_mul-lt-mul_right, arith, lit≤, pow_pos}
 use Rattle.std.specs.Float.{fin, binary64}
 use Rattle.std.specs.Float.Ieee.{low, add, sub, neg, fits}

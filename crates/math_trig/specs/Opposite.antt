@@ -1,6 +1,6 @@
 -- The sines of two arguments that lie as many quarter turns to either side of 0 and leave the same, but for its sign:
 -- the test, and that their sines differ in their sign alone where it passes. Assumes nothing.
-use Rattle.std.specs.Prelude.{◌≡◌, Bool, true, ◌&&◌, ℕ, zero, suc, ◌+◌, ◌-◌, ◌%◌, ◌≤◌, eqb, ℤ, pos, negsuc, Float}
+use Rattle.std.specs.Prelude.{◌≡◌, Bool, true, ◌&&◌, ℕ, zero, suc, ◌+◌, ◌%◌, ◌≤◌, eqb, ℤ, pos, negsuc, Float}
 use Rattle.std.proofs.Common.{sym, ap, ◌∙◌, subst, arith}
 use Rattle.std.specs.Float.{binary64}
 use Rattle.std.specs.Float.Ieee.{neg, le}

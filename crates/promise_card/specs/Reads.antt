@@ -2,7 +2,6 @@
 -- afterwards. Definitions only.
 use Rattle.std.specs.Prelude.{ℕ, ◌<◌, ◌≡◌, List, length, drop}
 use Rattle.verdict.specs.declared.Verdict.{Verdict}
-use Rattle.verdict.specs.declared.Verdict.TheVariants as Verdict
 use Rattle.ticket_kinds.specs.Kinds.{numbers_of, formed_of}
 use Rattle.ticket_kinds.specs.declared.Ticket.{Ticket}
 use Rattle.ticket_kinds.specs.declared.numbers.Formed.TheVariants.{Known}

@@ -6,7 +6,6 @@ use Rattle.verdict.specs.Report.{report_of, accepted_of}
 use Rattle.verdict.specs.Reports.{done_report}
 use Rattle.verdict.specs.declared.Report.{Report}
 use Rattle.verdict.specs.declared.Verdict.{Verdict}
-use Rattle.verdict.specs.declared.Verdict.TheVariants as Verdict
 use Rattle.ticket_kinds.specs.Kinds.{window_of, has_code, window_code, field_count, window_taken, ticket_of}
 use Rattle.ticket_kinds.specs.KindsLaws.{formed_back}
 use Rattle.ticket_kinds.specs.declared.Ticket.{Ticket}

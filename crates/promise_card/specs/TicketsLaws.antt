@@ -5,9 +5,7 @@ use Rattle.laws.specs.Cases.{either_way}
 use Rattle.verdict.specs.Numbers.{bad_code, unknown_kind}
 use Rattle.verdict.specs.Report.{report_of}
 use Rattle.verdict.specs.Outcome.{Outcome, answered}
-use Rattle.verdict.specs.Outcome as Outcome
 use Rattle.verdict.specs.declared.Refusal.{Refusal}
-use Rattle.verdict.specs.declared.Refusal.TheVariants as Refusal
 use Rattle.verdict.specs.declared.Report.{Report}
 use Rattle.wire.specs.Bytes.{float_bytes}
 use Rattle.wire.specs.Writes.{Writes, whole_taps}
@@ -19,10 +17,8 @@ use Rattle.ticket_codes.specs.declared.Coded.TheVariants.{Known}
 use Rattle.ticket_kinds.specs.Kinds.{kind_of, numbers_of, formed_of, field_count, window_taken, ticket_of}
 use Rattle.ticket_kinds.specs.KindsLaws.{kind_kept, formed_back}
 use Rattle.ticket_kinds.specs.declared.Ticket.{Ticket}
-use Rattle.ticket_kinds.specs.declared.Ticket.TheVariants as Ticket
 use Rattle.ticket_kinds.specs.declared.numbers.Numbers.{Numbers}
 use Rattle.ticket_kinds.specs.declared.numbers.Formed.{Formed}
-use Rattle.ticket_kinds.specs.declared.numbers.Formed.TheVariants as Formed
 use Rattle.ticket_design.specs.Design.{float, window_for, spec_for, where_counted, ticket_outcome, ticket_bytes, own_length}
 use Rattle.ticket_card.specs.declared.Reading.{Reading}
 use Rattle.ticket_card.specs.Card.{read_of}

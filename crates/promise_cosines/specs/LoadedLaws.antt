@@ -12,12 +12,10 @@ use Rattle.laws.specs.Binary64.{◌⊗◌, ◌⊘◌, whole, fraction}
 use Rattle.laws.proofs.SumsLaws.{sum_below}
 use Rattle.verdict.specs.Numbers.{bad_sum}
 use Rattle.verdict.specs.Outcome.{Outcome, Agrees}
-use Rattle.verdict.specs.Outcome as Outcome
 use Rattle.verdict.specs.Report.{accepted_of}
 use Rattle.verdict.specs.declared.Refusal.TheVariants.{Plain, Length}
 use Rattle.verdict.specs.declared.Report.{Report}
 use Rattle.verdict.specs.declared.Verdict.{Verdict}
-use Rattle.verdict.specs.declared.Verdict.TheVariants as Verdict
 use Rattle.wire.specs.Bytes.{float_bytes}
 use Rattle.wire.specs.Writes.{Writes}
 use Rattle.wire.proofs.WritesLaws.{writes_agreed}
@@ -29,7 +27,6 @@ use Rattle.win_cosines.specs.Worked as Worked
 use Rattle.fir_sinc.specs.Windows.{norm_of, shape_at, window_at}
 use Rattle.fir_sinc.specs.Taps.{raw_at}
 use Rattle.fir_sinc.specs.declared.window.Window.{Window}
-use Rattle.fir_sinc.specs.declared.window.Window.TheVariants as Window
 use Rattle.fir_lowpass.specs.Lowpass.{divisor_of, beta_taken, series_settle, usable, judgement_of, design_of, where_passed, lowpass_with, lowpass_of, tap_of, outcome_of}
 use Rattle.fir_lowpass.proofs.LowpassLaws.{passed, count_most}
 use Rattle.fir_lowpass.specs.declared.lowpass.Designed.TheVariants.{Ready, Refused}

@@ -13,21 +13,17 @@ use Rattle.math_numbers.specs.Numbers.{positive}
 use Rattle.math_bessel.specs.Series.{series_of}
 use Rattle.fir_length.specs.Kaiser.{beta_of, order_of}
 use Rattle.fir_length.specs.declared.order.Order.{Order}
-use Rattle.fir_length.specs.declared.order.Order.TheVariants as Order
 use Rattle.verdict.specs.declared.Refusal.{Refusal}
 use Rattle.verdict.specs.declared.Refusal.TheVariants as Why
 use Rattle.fir_sinc.specs.Windows.{window_at, norm_of}
 use Rattle.fir_lowpass.specs.Lowpass.{lowpass_of, tap_of}
 use Rattle.fir_sinc.specs.declared.window.Window.TheVariants.{Hann}
 use Rattle.fir_lowpass.specs.declared.lowpass.Designed.{Designed}
-use Rattle.fir_lowpass.specs.declared.lowpass.Designed.TheVariants as Designed
 use Rattle.fir_halfband.specs.Halfband.{length_taken, halfband_of}
 use Rattle.fir_halfband.specs.declared.HalfbandDesigned.{HalfbandDesigned}
-use Rattle.fir_halfband.specs.declared.HalfbandDesigned.TheVariants as HalfbandDesigned
 use Rattle.fmt_q15.specs.Q15.{moved, takes, q15_of, q15_tap_of}
 use Rattle.fmt_q14.specs.Q14 as Q14
 use Rattle.fmt_q15.specs.declared.q15.Coded.{Coded}
-use Rattle.fmt_q15.specs.declared.q15.Coded.TheVariants as Coded
 use Rattle.verdict.specs.declared.Length.{Length}
 use Rattle.verdict.specs.declared.Length.TheVariants as Taps
 use Rattle.fir_rrc.specs.Rrc.{sampled, spanned, rrc_len_of}

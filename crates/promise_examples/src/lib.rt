@@ -1,3 +1,2 @@
 // The worked examples that are proved; no code.
 #![tactic(auto)]
-

@@ -16,7 +16,6 @@ use Rattle.verdict.specs.Numbers.{bad_length, bad_element}
 use Rattle.verdict.specs.Report.{report_of, accepted_of}
 use Rattle.verdict.specs.Reports.{outcome_report, done_report}
 use Rattle.verdict.specs.Outcome.{Outcome, answered}
-use Rattle.verdict.specs.Outcome as Outcome
 use Rattle.verdict.specs.Converts.{taken_of, groups_of, then_of, left_of}
 use Rattle.verdict.specs.declared.Report.{Report}
 use Rattle.verdict.specs.declared.Verdict.{Verdict}
@@ -26,12 +25,10 @@ use Rattle.wire.specs.Laws.{length_bytes}
 use Rattle.wire.specs.Writes.{written, Writes}
 use Rattle.win_cosines.specs.Load.{cosines_of}
 use Rattle.win_cosines.specs.declared.Loading.{Loading}
-use Rattle.win_cosines.specs.declared.Loading.TheVariants as Loading
 use Rattle.c_cosines.specs.Loads.{numbers_in, load_bytes, zeros, answer_of}
 use Rattle.c_cosines.specs.LoadsLaws.{bytes_these}
 use Rattle.c_cosines.specs.declared.load.Loaded.{Loaded}
 use Rattle.c_formats.specs.declared.element.Format.{Format}
-use Rattle.c_formats.specs.declared.element.Format.TheVariants as Format
 use Rattle.c_formats.specs.Formats.{width_of, takes_of, pattern_of, outside_of, bytes_in}
 use Rattle.c_formats.specs.Conversions.{floats, lengths_of, stored_of, ConvertsBytes}
 use Rattle.c_formats.specs.ConversionLaws.{right_lengths, count}

@@ -8,21 +8,14 @@ use Rattle.verdict.specs.Numbers.{refusals, bad_length, not_settled}
 use Rattle.verdict.specs.Report.{report_of, accepted_of}
 use Rattle.verdict.specs.Reports.{length_report, outcome_report, done_report}
 use Rattle.verdict.specs.Outcome.{Outcome, answered}
-use Rattle.verdict.specs.Outcome as Outcome
 use Rattle.verdict.specs.declared.Refusal.{Refusal}
-use Rattle.verdict.specs.declared.Refusal.TheVariants as Refusal
 use Rattle.verdict.specs.declared.Verdict.{Verdict}
 use Rattle.verdict.specs.declared.Verdict.TheVariants.{Done, Refused}
 use Rattle.verdict.specs.declared.Length.{Length}
-use Rattle.verdict.specs.declared.Length.TheVariants as Length
 use Rattle.fir_length.specs.declared.order.Order.{Order}
-use Rattle.fir_length.specs.declared.order.Order.TheVariants as Order
 use Rattle.fir_delay.specs.declared.Delayed.{Delayed}
-use Rattle.fir_delay.specs.declared.Delayed.TheVariants as Delayed
 use Rattle.fmt_q15.specs.declared.q15.Coded.{Coded}
-use Rattle.fmt_q15.specs.declared.q15.Coded.TheVariants as Coded
 use Rattle.win_cosines.specs.declared.Loading.{Loading}
-use Rattle.win_cosines.specs.declared.Loading.TheVariants as Loading
 use Rattle.math_bessel.specs.declared.Series.{Series}
 use Rattle.c_math.specs.Reports.{order_report, delay_report, coded_report, unsettled_of, series_report}
 use Rattle.c_cosines.specs.Loads.{answer_of}

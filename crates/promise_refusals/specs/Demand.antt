@@ -6,7 +6,6 @@ use Rattle.std.specs.Prelude.{ℕ, ◌*◌, ◌/◌, ◌<◌, ◌≡◌, Bool, t
 use Rattle.laws.specs.Chunks.{chunks}
 use Rattle.verdict.specs.Numbers.{refusals, bad_element}
 use Rattle.verdict.specs.Outcome.{Outcome, answered}
-use Rattle.verdict.specs.Outcome as Outcome
 use Rattle.verdict.specs.Converts.{taken_of, then_of}
 use Rattle.verdict.specs.declared.Report.{Report}
 use Rattle.verdict.specs.declared.Verdict.{Verdict}

@@ -12,14 +12,11 @@ use Rattle.math_unity.specs.Unity.{within, near_one}
 use Rattle.math_round.specs.Whole.{abs_of}
 use Rattle.verdict.specs.Report.{report_of}
 use Rattle.verdict.specs.Outcome.{Outcome, answered, where_passed}
-use Rattle.verdict.specs.Outcome as Outcome
 use Rattle.verdict.specs.Converts.{taken_of, groups_of, then_of}
 use Rattle.verdict.specs.declared.Refusal.{Refusal}
-use Rattle.verdict.specs.declared.Refusal.TheVariants as Refusal
 use Rattle.verdict.specs.declared.Verdict.{Verdict}
 use Rattle.verdict.specs.declared.Verdict.TheVariants.{Done, Refused}
 use Rattle.verdict.specs.declared.Length.{Length}
-use Rattle.verdict.specs.declared.Length.TheVariants as Length
 use Rattle.wire.specs.Writes.{whole_elements}
 use Rattle.fmt_q15.specs.Q15 as Q15
 use Rattle.fmt_q14.specs.Q14 as Q14
@@ -30,24 +27,20 @@ use Rattle.win_sampled.specs.declared.shape.Shape.{Shape}
 use Rattle.win_sampled.specs.declared.shape.Symmetry.{Symmetry}
 use Rattle.fir_length.specs.Kaiser.{beta_of, estimate, order_of, lengthened, halfband_len_of}
 use Rattle.fir_length.specs.declared.order.Order.{Order}
-use Rattle.fir_length.specs.declared.order.Order.TheVariants as Order
 use Rattle.fir_delay.specs.Delay.{delay_of}
 use Rattle.fir_sinc.specs.Windows.{norm_of}
 use Rattle.fir_sinc.specs.declared.window.Window.{Window}
 use Rattle.fir_sinc.specs.declared.window.Window.TheVariants.{Kaiser}
 use Rattle.fir_lowpass.specs.Lowpass as Lowpass
 use Rattle.fir_lowpass.specs.declared.lowpass.Designed.{Designed}
-use Rattle.fir_lowpass.specs.declared.lowpass.Designed.TheVariants as Designed
 use Rattle.fir_spec.specs.Spec as Spec
 use Rattle.fir_spec.specs.declared.DesignSpec.{DesignSpec}
 use Rattle.fir_halfband.specs.Halfband as Halfband
 use Rattle.fir_halfband.specs.declared.HalfbandDesigned.{HalfbandDesigned}
 use Rattle.fir_gaussian.specs.Gaussian as Gaussian
 use Rattle.fir_gaussian.specs.declared.gaussian_design.GaussianDesigned.{GaussianDesigned}
-use Rattle.fir_gaussian.specs.declared.gaussian_design.GaussianDesigned.TheVariants as GaussianDesigned
 use Rattle.fir_rrc.specs.Rrc as Rrc
 use Rattle.fir_rrc.specs.declared.design.RrcDesigned.{RrcDesigned}
-use Rattle.fir_rrc.specs.declared.design.RrcDesigned.TheVariants as RrcDesigned
 use Rattle.fir_channelizer.specs.Channelizer as Channelizer
 use Rattle.iir_biquad.specs.Biquad.{centre_taken, quality_taken, biquad_of}
 use Rattle.iir_biquad.specs.Preemphasis.{constant_taken, rate_taken, preemphasis_of}
@@ -59,7 +52,6 @@ use Rattle.win_cosines.specs.Load.{numbers_taken, load_of}
 use Rattle.win_cosines.specs.Load as Load
 use Rattle.win_cosines.specs.declared.Loading.{Loading}
 use Rattle.c_formats.specs.declared.element.Format.{Format}
-use Rattle.c_formats.specs.declared.element.Format.TheVariants as Format
 use Rattle.c_formats.specs.Formats.{takes_of, outside_of}
 use Rattle.c_formats.specs.Conversions.{lengths_of}
 use Rattle.promise_refusals.specs.Demand.{listed}

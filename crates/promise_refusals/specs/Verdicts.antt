@@ -6,16 +6,11 @@ use Rattle.verdict.specs.declared.Refusal.TheVariants as Refusal
 use Rattle.verdict.specs.declared.Verdict.{Verdict}
 use Rattle.verdict.specs.declared.Verdict.TheVariants.{Done, Refused}
 use Rattle.verdict.specs.declared.Length.{Length}
-use Rattle.verdict.specs.declared.Length.TheVariants as Length
 use Rattle.math_bessel.specs.declared.Series.{Series}
 use Rattle.fir_length.specs.declared.order.Order.{Order}
-use Rattle.fir_length.specs.declared.order.Order.TheVariants as Order
 use Rattle.fir_delay.specs.declared.Delayed.{Delayed}
-use Rattle.fir_delay.specs.declared.Delayed.TheVariants as Delayed
 use Rattle.fmt_q15.specs.declared.q15.Coded.{Coded}
-use Rattle.fmt_q15.specs.declared.q15.Coded.TheVariants as Coded
 use Rattle.win_cosines.specs.declared.Loading.{Loading}
-use Rattle.win_cosines.specs.declared.Loading.TheVariants as Loading
 
 -- (of a design: `answered` in verdict/specs/Outcome)
 abbrev pub of_length : Length → Verdict

@@ -11,7 +11,6 @@ use Rattle.verdict.specs.Numbers.{bad_attenuation, not_settled}
 use Rattle.verdict.specs.Report.{report_of, accepted_of}
 use Rattle.verdict.specs.Reports.{outcome_report}
 use Rattle.verdict.specs.Outcome.{Outcome, where_passed}
-use Rattle.verdict.specs.Outcome as Outcome
 use Rattle.verdict.specs.declared.Refusal.{Refusal}
 use Rattle.verdict.specs.declared.Refusal.TheVariants.{Plain, Length}
 use Rattle.verdict.specs.declared.Report.{Report}

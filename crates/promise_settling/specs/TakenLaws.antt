@@ -10,7 +10,6 @@ use Rattle.math_numbers.specs.Numbers.{positive}
 use Rattle.verdict.specs.Numbers.{not_settled}
 use Rattle.verdict.specs.Report.{report_of}
 use Rattle.verdict.specs.Outcome.{Outcome, answered, where_passed}
-use Rattle.verdict.specs.Outcome as Outcome
 use Rattle.verdict.specs.declared.Refusal.TheVariants as Refusal
 use Rattle.verdict.specs.declared.Report.{Report}
 use Rattle.verdict.specs.declared.Verdict.{Verdict}
@@ -21,20 +20,17 @@ use Rattle.win_settling.specs.SettlingLaws.{settles_to_713}
 use Rattle.win_sampled.specs.Shapes.{shape_taken, divisor_of, window_at, judgement_of}
 use Rattle.win_sampled.specs.Shapes as Shapes
 use Rattle.win_sampled.specs.declared.shape.Shape.{Shape}
-use Rattle.win_sampled.specs.declared.shape.Shape.TheVariants as Shape
 use Rattle.win_sampled.specs.declared.shape.Symmetry.{Symmetry}
 use Rattle.fir_sinc.specs.Windows.{norm_of}
 use Rattle.fir_sinc.specs.declared.window.Window.{Window}
 use Rattle.fir_sinc.specs.declared.window.Window.TheVariants.{Kaiser}
 use Rattle.fir_lowpass.specs.Lowpass as Lowpass
 use Rattle.fir_lowpass.specs.declared.lowpass.Designed.{Designed}
-use Rattle.fir_lowpass.specs.declared.lowpass.Designed.TheVariants as Designed
 use Rattle.fir_halfband.specs.Halfband as Halfband
 use Rattle.fir_halfband.specs.declared.HalfbandDesigned.{HalfbandDesigned}
 use Rattle.ticket_codes.specs.Codes.{window_of}
 use Rattle.c_lowpass.specs.Lowpass.{lowpass_bytes}
 use Rattle.c_pulses.specs.Buffers.{halfband_bytes}
-use Rattle.c_windows.specs.Codes.{symmetry_of}
 use Rattle.c_windows.specs.Samples.{width_of, sample_bytes, window_bytes}
 use Rattle.c_windows.specs.declared.codes.Coded as SymmetryCode
 use Rattle.c_windows.specs.declared.codes.Coded.TheVariants as Symmetry

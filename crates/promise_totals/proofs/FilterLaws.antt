@@ -1,11 +1,10 @@
 -- What is read after a conversion keeps its totals, a kind at a time.
-use Rattle.std.specs.Prelude.{◌≡◌, refl, Bool, cond, List, [], ◌∷◌, ℕ, zero, suc, ◌+◌, ◌*◌, ◌/◌, ◌%◌, ◌^◌, ◌≤◌, T, ℤ, pos, nat_abs, ◌+ℤ◌, ◌-ℤ◌, length, get_or, Float}
+use Rattle.std.specs.Prelude.{◌≡◌, refl, Bool, cond, List, [], ◌∷◌, ℕ, zero, suc, ◌+◌, ◌*◌, ◌/◌, ◌%◌, ◌^◌, ◌≤◌, ℤ, pos, nat_abs, ◌+ℤ◌, ◌-ℤ◌, length, get_or, Float}
 use Rattle.std.proofs.Common.{sym, ap, ◌∙◌, subst, arith, eq-eqb}
 use Rattle.std.proofs.Math.Nat.{mod-one}
 use Rattle.std.specs.Float.{nan, binary64}
 use Rattle.std.specs.Float.Ieee.{to_bits}
 use Rattle.std.specs.Float.Ieee.Bits.{is_true}
-use Rattle.std.specs.Float.Ieee.Scale.{finite}
 use Rattle.laws.specs.Chunks.{length_chunks}
 use Rattle.laws.specs.Filled.{tabulate}
 use Rattle.laws.specs.Prefix.{one_more, first_bad}
@@ -22,7 +21,6 @@ use Rattle.verdict.specs.Reports.{outcome_report, done_report}
 use Rattle.verdict.specs.Converts.{taken_of, then_of}
 use Rattle.verdict.specs.ConvertsLaws.{same_count}
 use Rattle.verdict.specs.Outcome.{Outcome}
-use Rattle.verdict.specs.Outcome as Outcome
 use Rattle.fmt_q15.specs.Q15.{takes, q15_of}
 use Rattle.fir_spec.specs.declared.DesignSpec.{DesignSpec}
 use Rattle.c_formats.specs.declared.element.Format.TheVariants.{Q15}
@@ -35,13 +33,13 @@ use Rattle.c_lowpass.specs.Prototype.{channelizer_bytes}
 use Rattle.c_lowpass.specs.Spec.{spec_bytes}
 use Rattle.c_pulses.specs.Buffers.{halfband_bytes, gaussian_bytes}
 use Rattle.promise_refusals.proofs.Kept.{Converted, accepted_conversion}
-use Rattle.promise_totals.specs.Bounds.{sizes, unsaturated}
+use Rattle.promise_totals.specs.Bounds.{sizes}
 use Rattle.promise_totals.proofs.Normalised.{taken_finite}
 use Rattle.promise_totals.proofs.Sound.{Sound, lowpass_bytes_sound, spec_bytes_sound, halfband_bytes_sound, gaussian_bytes_sound, channelizer_bytes_sound}
-use Rattle.promise_totals.specs.Written.{Accepted, divisor_in, taps_in, Totals}
+use Rattle.promise_totals.specs.Written.{Accepted, taps_in, Totals}
 use Rattle.promise_totals.proofs.WrittenLaws.{by_writes, lowpass_written, spec_written, halfband_written, gaussian_written, channelizer_written}
 use Rattle.promise_totals.specs.ReadCodes.{codes_back, q15_fits}
-use Rattle.promise_totals.specs.Filter.{FilterTotal, Filters, sum_of_all}
+use Rattle.promise_totals.specs.Filter.{Filters, sum_of_all}
 
 -- ---- the numbers that are read are those that `q15_tap` makes
 -- an accepted conversion to Q15, in the words of Q15 alone

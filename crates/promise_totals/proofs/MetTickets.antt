@@ -29,7 +29,6 @@ use Rattle.fir_length.specs.Kaiser.{beta_of, order_of}
 use Rattle.fmt_q15.specs.Q15.{moved, takes}
 use Rattle.verdict.specs.declared.Verdict.{Verdict}
 use Rattle.verdict.specs.Outcome.{Outcome, Fills}
-use Rattle.verdict.specs.Outcome as Outcome
 use Rattle.fir_sinc.specs.Windows.{window_at, norm_of}
 use Rattle.fir_sinc.specs.declared.window.Window.TheVariants.{Hann}
 use Rattle.fir_lowpass.proofs.LowpassLaws.{lowpass_count}

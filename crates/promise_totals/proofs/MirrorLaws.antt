@@ -4,15 +4,14 @@ use Rattle.std.proofs.Common.{sym, ap, ◌∙◌, subst, arith}
 use Rattle.std.specs.Float.{binary64}
 use Rattle.std.specs.Float.Ieee.{to_bits}
 use Rattle.laws.specs.Chunks.{chunks}
-use Rattle.wire.specs.Bytes.{float_bytes, float_of, float_at}
+use Rattle.wire.specs.Bytes.{float_bytes, float_of}
 use Rattle.wire.specs.Laws.{length_bytes}
 use Rattle.wire.specs.Read.{chunk_at, float_bytes_lem}
 use Rattle.verdict.specs.Report.{accepted_of}
 use Rattle.verdict.specs.declared.Refusal.TheVariants as Refusal
 use Rattle.verdict.specs.declared.Report.{Report}
 use Rattle.verdict.specs.Outcome.{Outcome}
-use Rattle.verdict.specs.Outcome as Outcome
-use Rattle.fir_halfband.specs.Halfband.{distance, halfband_of, tap_of, outcome_of}
+use Rattle.fir_halfband.specs.Halfband.{halfband_of, tap_of, outcome_of}
 use Rattle.fir_halfband.specs.HalfbandLaws.{accepted}
 use Rattle.fir_halfband.specs.Mirror.{IsZero, mirror, zero_taps}
 use Rattle.fir_halfband.specs.declared.HalfbandDesign.{HalfbandDesign}

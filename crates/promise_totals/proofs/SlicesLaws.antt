@@ -1,17 +1,12 @@
 -- The totals of what fills a slice, a kind at a time.
-use Rattle.std.specs.Prelude.{◌≡◌, List, ℕ, ◌-◌, ◌%◌, ◌<◌, T, length, get_or, Float}
+use Rattle.std.specs.Prelude.{◌≡◌, List, ℕ, ◌-◌, ◌%◌, ◌<◌, length, get_or, Float}
 use Rattle.std.proofs.Common.{sym, ap, ◌∙◌, subst, arith}
 use Rattle.std.specs.Float.{nan}
-use Rattle.std.specs.Float.Ieee.Scale.{finite}
 use Rattle.laws.specs.Filled.{tabulate, tabulate_below, length_tabulate, get_d_tabulate}
-use Rattle.laws.specs.SumError.{Each}
 use Rattle.verdict.specs.Counted.{Counted}
 use Rattle.verdict.specs.Outcome.{Outcome, Fills, Agrees}
-use Rattle.verdict.specs.Outcome as Outcome
 use Rattle.verdict.specs.declared.Refusal.{Refusal}
 use Rattle.verdict.specs.declared.Verdict.{Verdict}
-use Rattle.verdict.specs.declared.Verdict.TheVariants as Verdict
-use Rattle.fmt_q15.specs.Q15.{takes}
 use Rattle.fir_sinc.specs.declared.window.Window.{Window}
 use Rattle.fir_lowpass.specs.Lowpass as Lowpass
 use Rattle.fir_lowpass.proofs.LowpassLaws.{lowpass_count}
@@ -27,12 +22,11 @@ use Rattle.fir_gaussian.specs.GaussianLaws.{gaussian_count}
 use Rattle.fir_channelizer.specs.Channelizer as Channelizer
 use Rattle.fir_channelizer.specs.ChannelizerLaws.{channelizer_count}
 use Rattle.ticket_slices.specs.Agree.{agree}
-use Rattle.promise_totals.specs.Bounds.{TapTotal, Q15Total, unsaturated}
 use Rattle.promise_totals.proofs.Normalised.{Promised, normalised_promised}
 use Rattle.promise_totals.proofs.Sound.{Made, lowpass_made, spec_made, halfband_made, gaussian_made, channelizer_made}
 use Rattle.promise_totals.specs.Mirror.{WhereMade}
 use Rattle.promise_totals.proofs.MirrorLaws.{halfband_symmetric}
-use Rattle.promise_totals.specs.Slices.{IsDone, SliceMirrors, SliceTotals, last_divisor}
+use Rattle.promise_totals.specs.Slices.{SliceMirrors, SliceTotals}
 
 -- ---- of any outcome
 -- a refusal isn't done

@@ -7,29 +7,22 @@ use Rattle.laws.specs.Binary64.{◌⊕◌, ◌⊗◌, ◌⊘◌, whole}
 use Rattle.laws.specs.Cases.{either_way}
 use Rattle.verdict.specs.Report.{report_of}
 use Rattle.verdict.specs.Outcome.{Outcome, answered}
-use Rattle.verdict.specs.Outcome as Outcome
 use Rattle.verdict.specs.declared.Refusal.{Refusal}
-use Rattle.verdict.specs.declared.Refusal.TheVariants as Refusal
 use Rattle.verdict.specs.declared.Verdict.{Verdict}
-use Rattle.verdict.specs.declared.Verdict.TheVariants as Verdict
 use Rattle.wire.specs.Writes.{whole_taps}
 use Rattle.fir_length.specs.Kaiser.{beta_of}
 use Rattle.fir_length.specs.declared.order.Order.{Order}
-use Rattle.fir_length.specs.declared.order.Order.TheVariants as Order
 use Rattle.fir_sinc.specs.Windows.{norm_of}
 use Rattle.fir_sinc.specs.declared.window.Window.{Window}
 use Rattle.fir_sinc.specs.declared.window.Window.TheVariants.{Kaiser}
 use Rattle.fir_lowpass.specs.Lowpass as Lowpass
 use Rattle.fir_lowpass.specs.declared.lowpass.Designed.{Designed}
-use Rattle.fir_lowpass.specs.declared.lowpass.Designed.TheVariants as Designed
 use Rattle.fir_spec.specs.Spec.{spec_order_of, design_in, spec_design_of}
 use Rattle.fir_spec.specs.declared.DesignSpec.{DesignSpec}
 use Rattle.fir_halfband.specs.Halfband as Halfband
 use Rattle.fir_halfband.specs.declared.HalfbandDesigned.{HalfbandDesigned}
-use Rattle.fir_halfband.specs.declared.HalfbandDesigned.TheVariants as HalfbandDesigned
 use Rattle.fir_gaussian.specs.Gaussian as Gaussian
 use Rattle.fir_gaussian.specs.declared.gaussian_design.GaussianDesigned.{GaussianDesigned}
-use Rattle.fir_gaussian.specs.declared.gaussian_design.GaussianDesigned.TheVariants as GaussianDesigned
 use Rattle.fir_channelizer.specs.Channelizer as Channelizer
 use Rattle.c_lowpass.specs.Lowpass.{lowpass_bytes}
 use Rattle.c_lowpass.specs.Prototype.{channelizer_bytes}

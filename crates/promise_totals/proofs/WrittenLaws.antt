@@ -1,15 +1,11 @@
 -- The totals of what an export writes, a kind at a time.
-use Rattle.std.specs.Prelude.{◌≡◌, List, ℕ, T, length, Float}
+use Rattle.std.specs.Prelude.{List, ℕ, length, Float}
 use Rattle.std.proofs.Common.{sym, subst}
-use Rattle.std.specs.Float.Ieee.Scale.{finite}
-use Rattle.laws.specs.SumError.{Each}
-use Rattle.wire.specs.Bytes.{float_bytes, floats_in}
+use Rattle.wire.specs.Bytes.{float_bytes}
 use Rattle.wire.specs.Read.{floats_back}
 use Rattle.verdict.specs.Report.{accepted_of}
 use Rattle.verdict.specs.declared.Report.{Report}
-use Rattle.fmt_q15.specs.Q15.{takes}
 use Rattle.verdict.specs.Outcome.{Outcome}
-use Rattle.verdict.specs.Outcome as Outcome
 use Rattle.fir_spec.specs.declared.DesignSpec.{DesignSpec}
 use Rattle.ticket_codes.specs.declared.Coded.{Coded}
 use Rattle.c_lowpass.specs.Lowpass.{lowpass_bytes}
@@ -21,10 +17,9 @@ use Rattle.c_pulses.specs.Buffers.{halfband_bytes, gaussian_bytes}
 use Rattle.verdict.specs.Reports.{outcome_report}
 use Rattle.c_lowpass.specs.Spec.{spec_bytes}
 use Rattle.wire.specs.Writes.{Writes, written}
-use Rattle.promise_totals.specs.Bounds.{TapTotal, Q15Total, unsaturated}
 use Rattle.promise_totals.proofs.Normalised.{Promised, normalised_promised}
 use Rattle.promise_totals.proofs.Sound.{Sound, lowpass_bytes_sound, design_lowpass_sound, design_cutoff_sound, design_beta_sound, spec_bytes_sound, halfband_bytes_sound, gaussian_bytes_sound, channelizer_bytes_sound}
-use Rattle.promise_totals.specs.Written.{Accepted, Totals, divisor_in, taps_in}
+use Rattle.promise_totals.specs.Written.{Totals}
 
 -- ---- of any outcome
 -- what holds of an outcome's report and buffer holds of what an export answers and leaves

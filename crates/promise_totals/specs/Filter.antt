@@ -1,45 +1,13 @@
 -- The chain to the filter as one statement: the taps that a design export writes, converted by an accepted `pel_to_q15`
 -- and read back from the bytes as the signed 16-bit numbers that a filter runs on, have an exact sum within the Q15
 -- total. Assumes nothing.
-use Rattle.std.specs.Prelude.{◌≡◌, refl, Bool, cond, List, [], ◌∷◌, ℕ, zero, suc, ◌+◌, ◌*◌, ◌/◌, ◌%◌, ◌^◌, ◌≤◌, T, ℤ, pos, nat_abs, ◌+ℤ◌, ◌-ℤ◌, length, get_or, Float}
-use Rattle.std.proofs.Common.{sym, ap, ◌∙◌, subst, arith, eq-eqb}
-use Rattle.std.proofs.Math.Nat.{mod-one}
-use Rattle.std.specs.Float.{nan, binary64}
-use Rattle.std.specs.Float.Ieee.{to_bits}
-use Rattle.std.specs.Float.Ieee.Bits.{is_true}
+use Rattle.std.specs.Prelude.{◌≡◌, List, [], ◌∷◌, ℕ, ◌+◌, ◌*◌, ◌^◌, ◌≤◌, T, ℤ, pos, nat_abs, ◌+ℤ◌, ◌-ℤ◌, length, Float}
 use Rattle.std.specs.Float.Ieee.Scale.{finite}
-use Rattle.laws.specs.Chunks.{length_chunks}
-use Rattle.laws.specs.Filled.{tabulate}
-use Rattle.laws.specs.Prefix.{one_more, first_bad}
 use Rattle.laws.specs.SumError.{Each}
-use Rattle.laws.specs.Totals.{sum_z}
-use Rattle.wire.specs.Bytes.{twos_of, float_bytes, float_at, floats_in, code_bytes, codes_in}
-use Rattle.wire.specs.Laws.{length_bytes}
-use Rattle.wire.specs.Writes.{Writes, written}
-use Rattle.verdict.specs.Report.{accepted_of}
+use Rattle.wire.specs.Bytes.{codes_in}
 use Rattle.verdict.specs.declared.Report.{Report}
-use Rattle.verdict.specs.declared.Verdict.{Verdict}
-use Rattle.verdict.specs.declared.Verdict.TheVariants.{Done, Refused}
-use Rattle.verdict.specs.Reports.{outcome_report, done_report}
-use Rattle.verdict.specs.Converts.{taken_of, then_of}
-use Rattle.verdict.specs.ConvertsLaws.{same_count}
-use Rattle.verdict.specs.Outcome.{Outcome}
-use Rattle.verdict.specs.Outcome as Outcome
-use Rattle.fmt_q15.specs.Q15.{takes, q15_of}
-use Rattle.fir_spec.specs.declared.DesignSpec.{DesignSpec}
-use Rattle.c_formats.specs.declared.element.Format.TheVariants.{Q15}
-use Rattle.c_formats.specs.Formats.{width_of, takes_of, pattern_of, outside_of}
-use Rattle.c_formats.specs.Conversions.{floats, lengths_of, ConvertsBytes}
-use Rattle.c_formats.specs.ConversionLaws.{whole_elements}
-use Rattle.ticket_codes.specs.declared.Coded.{Coded}
-use Rattle.c_lowpass.specs.Lowpass.{lowpass_bytes}
-use Rattle.c_lowpass.specs.Prototype.{channelizer_bytes}
-use Rattle.c_lowpass.specs.Spec.{spec_bytes}
-use Rattle.c_pulses.specs.Buffers.{halfband_bytes, gaussian_bytes}
-use Rattle.promise_refusals.proofs.Kept.{Converted, accepted_conversion}
 use Rattle.promise_totals.specs.Bounds.{sizes, unsaturated}
-use Rattle.promise_totals.specs.Written.{Accepted, divisor_in, taps_in, Totals}
-use Rattle.promise_totals.specs.ReadCodes.{codes_back, q15_fits}
+use Rattle.promise_totals.specs.Written.{Accepted, divisor_in, taps_in}
 
 -- ---- the statement
 -- the exact sum of whole numbers

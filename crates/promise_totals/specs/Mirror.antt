@@ -1,28 +1,11 @@
 -- The bytes of an accepted half-band: tap i and its mirror image are the same eight bytes, and every tap at an even
 -- distance from the middle but 0 is zero, whether the taps are finite or not. Assumes nothing.
-use Rattle.std.specs.Prelude.{◌≡◌, refl, List, ℕ, ◌-◌, ◌*◌, ◌/◌, ◌%◌, ◌<◌, eqb, length, take, drop, Float}
-use Rattle.std.proofs.Common.{sym, ap, ◌∙◌, subst, arith}
-use Rattle.std.specs.Float.{binary64}
-use Rattle.std.specs.Float.Ieee.{to_bits}
-use Rattle.laws.specs.Chunks.{chunks}
-use Rattle.wire.specs.Bytes.{float_bytes, float_of, float_at}
-use Rattle.wire.specs.Laws.{length_bytes}
-use Rattle.wire.specs.Read.{chunk_at, float_bytes_lem}
-use Rattle.verdict.specs.Report.{accepted_of}
-use Rattle.verdict.specs.declared.Refusal.TheVariants as Refusal
+use Rattle.std.specs.Prelude.{◌≡◌, List, ℕ, ◌-◌, ◌*◌, ◌%◌, ◌<◌, take, drop, Float}
+use Rattle.wire.specs.Bytes.{float_at}
 use Rattle.verdict.specs.declared.Report.{Report}
 use Rattle.verdict.specs.Outcome.{Outcome}
-use Rattle.verdict.specs.Outcome as Outcome
-use Rattle.fir_halfband.specs.Halfband.{distance, halfband_of, tap_of, outcome_of}
-use Rattle.fir_halfband.specs.HalfbandLaws.{accepted}
-use Rattle.fir_halfband.specs.Mirror.{IsZero, mirror, zero_taps}
-use Rattle.fir_halfband.specs.declared.HalfbandDesign.{HalfbandDesign}
-use Rattle.fir_halfband.specs.declared.HalfbandDesigned.{HalfbandDesigned}
-use Rattle.fir_halfband.specs.declared.HalfbandDesigned.TheVariants.{Ready, Refused}
-use Rattle.c_pulses.specs.Buffers.{halfband_bytes}
-use Rattle.verdict.specs.Reports.{outcome_report}
-use Rattle.wire.specs.Writes.{Writes, written}
-use Rattle.laws.specs.Cases.{either_way}
+use Rattle.fir_halfband.specs.Halfband.{distance}
+use Rattle.fir_halfband.specs.Mirror.{IsZero}
 
 -- ---- the taps, wherever they are put
 pub record Symmetric (n : ℕ) (tap : ℕ → Float) : Type 0 where

@@ -1,6 +1,6 @@
 -- Signed 16-bit numbers read from bytes, two each: what the bytes of a number hold is the number, and every Q15 number
 -- is one of 16 bits. Assumes nothing.
-use Rattle.std.specs.Prelude.{◌≡◌, refl, Bool, true, false, cond, List, ℕ, ◌-◌, ◌*◌, ◌^◌, ◌≤◌, ◌<◌, min, ltb, ℤ, pos, negsuc, length, take, drop, Float}
+use Rattle.std.specs.Prelude.{◌≡◌, refl, Bool, true, false, cond, ℕ, ◌-◌, ◌*◌, ◌≤◌, ◌<◌, min, ℤ, pos, negsuc, take, drop, Float}
 use Rattle.std.proofs.Common.{ap, ◌∙◌, lt_of_lt_of_le, arith, leb-true, le-leb, lt-ltb, le-ltb, lit≤}
 use Rattle.std.specs.Float.{nan, inf, fin}
 use Rattle.laws.specs.Chunks.{chunks}

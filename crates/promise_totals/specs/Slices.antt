@@ -1,35 +1,15 @@
 -- Demand 3 of the taps that a design leaves in a slice of f64s, and the mirror and the zeros of a half-band there, for
 -- every ticket and every length of the slice: one law from `Fills`. Assumes nothing.
 use Rattle.std.specs.Prelude.{◌≡◌, List, ℕ, ◌-◌, ◌%◌, ◌<◌, T, length, get_or, Float}
-use Rattle.std.proofs.Common.{sym, ap, ◌∙◌, subst, arith}
 use Rattle.std.specs.Float.{nan}
 use Rattle.std.specs.Float.Ieee.Scale.{finite}
-use Rattle.laws.specs.Filled.{tabulate, tabulate_below, length_tabulate, get_d_tabulate}
 use Rattle.laws.specs.SumError.{Each}
-use Rattle.verdict.specs.Counted.{Counted}
-use Rattle.verdict.specs.Outcome.{Outcome, Fills, Agrees}
-use Rattle.verdict.specs.Outcome as Outcome
-use Rattle.verdict.specs.declared.Refusal.{Refusal}
+use Rattle.verdict.specs.Outcome.{Outcome}
 use Rattle.verdict.specs.declared.Verdict.{Verdict}
-use Rattle.verdict.specs.declared.Verdict.TheVariants as Verdict
 use Rattle.fmt_q15.specs.Q15.{takes}
-use Rattle.fir_sinc.specs.declared.window.Window.{Window}
-use Rattle.fir_lowpass.specs.Lowpass as Lowpass
-use Rattle.fir_lowpass.proofs.LowpassLaws.{lowpass_count}
-use Rattle.fir_spec.specs.Spec.{spec_design_of}
-use Rattle.fir_spec.specs.SpecLaws.{spec_count}
-use Rattle.fir_spec.specs.declared.DesignSpec.{DesignSpec}
-use Rattle.fir_halfband.specs.Halfband as Halfband
-use Rattle.fir_halfband.specs.Halfband.{distance, halfband_taps_of}
-use Rattle.fir_halfband.specs.HalfbandLaws.{halfband_count}
+use Rattle.fir_halfband.specs.Halfband.{distance}
 use Rattle.fir_halfband.specs.Mirror.{IsZero}
-use Rattle.fir_gaussian.specs.Gaussian as Gaussian
-use Rattle.fir_gaussian.specs.GaussianLaws.{gaussian_count}
-use Rattle.fir_channelizer.specs.Channelizer as Channelizer
-use Rattle.fir_channelizer.specs.ChannelizerLaws.{channelizer_count}
-use Rattle.ticket_slices.specs.Agree.{agree}
 use Rattle.promise_totals.specs.Bounds.{TapTotal, Q15Total, unsaturated}
-use Rattle.promise_totals.specs.Mirror.{WhereMade}
 
 -- ---- the statements, of a function's answer r and of its slice afterwards
 -- "accepted": the answer is `Done`

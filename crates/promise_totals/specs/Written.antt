@@ -1,27 +1,11 @@
 -- Demand 3 of the taps that the exports write, read back from the bytes, for every ticket and every length of the
 -- buffer. Assumes nothing.
-use Rattle.std.specs.Prelude.{◌≡◌, List, ℕ, T, length, Float}
-use Rattle.std.proofs.Common.{sym, subst}
+use Rattle.std.specs.Prelude.{◌≡◌, List, ℕ, T, Float}
 use Rattle.std.specs.Float.Ieee.Scale.{finite}
 use Rattle.laws.specs.SumError.{Each}
-use Rattle.wire.specs.Bytes.{float_bytes, floats_in}
-use Rattle.wire.specs.Read.{floats_back}
-use Rattle.verdict.specs.Report.{accepted_of}
+use Rattle.wire.specs.Bytes.{floats_in}
 use Rattle.verdict.specs.declared.Report.{Report}
 use Rattle.fmt_q15.specs.Q15.{takes}
-use Rattle.verdict.specs.Outcome.{Outcome}
-use Rattle.verdict.specs.Outcome as Outcome
-use Rattle.fir_spec.specs.declared.DesignSpec.{DesignSpec}
-use Rattle.ticket_codes.specs.declared.Coded.{Coded}
-use Rattle.c_lowpass.specs.Lowpass.{lowpass_bytes}
-use Rattle.c_lowpass.specs.Prototype.{channelizer_bytes}
-use Rattle.fir_lowpass.specs.Lowpass.{outcome_of}
-use Rattle.c_retune.specs.Designs.{lowpass_for, cutoff_for, beta_for}
-use Rattle.c_retune.specs.declared.record.Design.{Design}
-use Rattle.c_pulses.specs.Buffers.{halfband_bytes, gaussian_bytes}
-use Rattle.verdict.specs.Reports.{outcome_report}
-use Rattle.c_lowpass.specs.Spec.{spec_bytes}
-use Rattle.wire.specs.Writes.{Writes, written}
 use Rattle.promise_totals.specs.Bounds.{TapTotal, Q15Total, unsaturated}
 
 -- ---- the statement, of an export's report r and of its buffer afterwards

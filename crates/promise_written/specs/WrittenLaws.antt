@@ -13,7 +13,6 @@ use Rattle.verdict.specs.Reports.{done_report}
 use Rattle.verdict.specs.declared.Refusal.{Refusal}
 use Rattle.verdict.specs.declared.Report.{Report}
 use Rattle.verdict.specs.declared.Verdict.{Verdict}
-use Rattle.verdict.specs.declared.Verdict.TheVariants as Verdict
 use Rattle.wire.specs.Held.{Below}
 use Rattle.ticket_kinds.specs.Kinds.{kind_of, fields_of, has_code, numbers_of, field_count, window_taken, ticket_of, formed_of}
 use Rattle.ticket_kinds.specs.KindsLaws.{formed_passed, formed_back}
@@ -23,7 +22,6 @@ use Rattle.ticket_kinds.specs.declared.numbers.Numbers.{Numbers}
 use Rattle.ticket_kinds.specs.declared.numbers.Formed.{Formed}
 use Rattle.ticket_kinds.specs.declared.numbers.Formed.TheVariants.{Known, Refused}
 use Rattle.ticket_card.specs.declared.Reading.{Reading}
-use Rattle.ticket_card.specs.declared.Reading.TheVariants as Reading
 use Rattle.ticket_card.specs.Card.{record_length, read_of}
 use Rattle.ticket_record.specs.Record.{record_of, field_list, write_of, left_by}
 use Rattle.ticket_record.specs.RecordLaws.{length_record}

@@ -6,11 +6,9 @@ use Rattle.fir_lowpass.specs.Cached.{Caches}
 use Rattle.fir_halfband.specs.Halfband as Halfband
 use Rattle.fir_halfband.specs.declared.HalfbandDesign.{HalfbandDesign}
 use Rattle.fir_halfband.specs.declared.HalfbandDesigned.{HalfbandDesigned}
-use Rattle.fir_halfband.specs.declared.HalfbandDesigned.TheVariants as HalfbandDesigned
 use Rattle.fir_gaussian.specs.Gaussian as Gaussian
 use Rattle.fir_gaussian.specs.declared.gaussian_design.Gaussian.{Gaussian}
 use Rattle.fir_gaussian.specs.declared.gaussian_design.GaussianDesigned.{GaussianDesigned}
-use Rattle.fir_gaussian.specs.declared.gaussian_design.GaussianDesigned.TheVariants as GaussianDesigned
 use Rattle.fir_rrc.specs.Rrc as Rrc
 use Rattle.fir_rrc.specs.declared.design.RrcDesigned.{RrcDesigned}
 use Rattle.wire.specs.Writes.{Room}

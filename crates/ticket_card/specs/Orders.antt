@@ -6,7 +6,6 @@ use Rattle.verdict.specs.Numbers.{bad_code, cut_short, unknown_kind, bad_record_
 use Rattle.verdict.specs.declared.Refusal.TheVariants.{Plain}
 use Rattle.ticket_kinds.specs.Kinds.{field_count, ticket_of, window_taken, formed}
 use Rattle.ticket_kinds.specs.declared.numbers.Formed.{Formed}
-use Rattle.ticket_kinds.specs.declared.numbers.Formed.TheVariants as Formed
 use Rattle.ticket_card.specs.declared.Reading.{Reading}
 use Rattle.ticket_card.specs.declared.Reading.TheVariants.{Read, Refused}
 use Rattle.ticket_card.specs.Card.{fields_in, following, record_length, length_in, kind_in, refused, read_kind, read_of}

@@ -3,7 +3,6 @@ use Rattle.std.specs.Prelude.{◌≡◌, refl, ℕ, zero, suc, T, Float}
 use Rattle.std.proofs.Common.{subst}
 use Rattle.win_shapes.specs.declared.cosines.Cosines.{Cosines}
 use Rattle.fir_sinc.specs.declared.window.Window.{Window}
-use Rattle.fir_sinc.specs.declared.window.Window.TheVariants as Window
 use Rattle.ticket_codes.specs.declared.Coded.{Coded}
 use Rattle.ticket_codes.specs.declared.Coded.TheVariants.{Known, Unknown}
 use Rattle.ticket_codes.specs.Codes.{window_of, code_of, shape_of, has_code}

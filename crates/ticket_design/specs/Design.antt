@@ -4,12 +4,9 @@ use Rattle.std.specs.Float.{binary64}
 use Rattle.std.specs.Float.Ieee.{of_bits}
 use Rattle.verdict.specs.declared.Refusal.TheVariants as Refusal
 use Rattle.verdict.specs.declared.Length.{Length}
-use Rattle.verdict.specs.declared.Length.TheVariants as Length
 use Rattle.verdict.specs.Outcome.{Outcome}
-use Rattle.verdict.specs.Outcome as Outcome
 use Rattle.wire.specs.Writes.{whole_taps}
 use Rattle.fir_sinc.specs.declared.window.Window.{Window}
-use Rattle.fir_sinc.specs.declared.window.Window.TheVariants as Window
 use Rattle.fir_lowpass.specs.Lowpass as Lowpass
 use Rattle.fir_spec.specs.Spec.{num_taps_of, spec_design_of}
 use Rattle.fir_spec.specs.declared.DesignSpec.{DesignSpec}
@@ -18,10 +15,8 @@ use Rattle.fir_gaussian.specs.Gaussian as Gaussian
 use Rattle.fir_rrc.specs.Rrc as Rrc
 use Rattle.fir_channelizer.specs.Channelizer as Channelizer
 use Rattle.ticket_kinds.specs.declared.TicketWindow.{TicketWindow}
-use Rattle.ticket_kinds.specs.declared.TicketWindow.TheVariants as TicketWindow
 use Rattle.ticket_kinds.specs.declared.SpecTicket.{SpecTicket}
 use Rattle.ticket_kinds.specs.declared.Ticket.{Ticket}
-use Rattle.ticket_kinds.specs.declared.Ticket.TheVariants as Ticket
 
 -- ---- "floats stand as their bits"
 abbrev pub float : ℕ → Float

@@ -4,16 +4,12 @@ use Rattle.std.specs.Prelude.{◌≡◌, refl, Bool, true, false, cond, ℕ, ◌
 use Rattle.std.proofs.Common.{ap, eq-eqb}
 use Rattle.verdict.specs.declared.Refusal.{Refusal}
 use Rattle.verdict.specs.declared.Length.{Length}
-use Rattle.verdict.specs.declared.Length.TheVariants as Length
 use Rattle.verdict.specs.declared.Verdict.{Verdict}
-use Rattle.verdict.specs.declared.Verdict.TheVariants as Verdict
 use Rattle.verdict.specs.Counted.{Counted}
 use Rattle.fir_length.specs.declared.order.Order.{Order}
-use Rattle.fir_length.specs.declared.order.Order.TheVariants as Order
 use Rattle.fir_lowpass.specs.Lowpass.{where_passed, lowpass_of, outcome_of}
 use Rattle.fir_lowpass.proofs.LowpassLaws.{lowpass_count}
 use Rattle.fir_lowpass.specs.declared.lowpass.Designed.{Designed}
-use Rattle.fir_lowpass.specs.declared.lowpass.Designed.TheVariants as Designed
 use Rattle.fir_spec.specs.Spec.{lowpass_in, design_in, taps_in as length_in, num_taps_of, spec_order_of, spec_lowpass_of, spec_design_of}
 use Rattle.fir_spec.specs.declared.DesignSpec.{DesignSpec}
 use Rattle.fir_gaussian.specs.Gaussian as Gaussian
@@ -21,7 +17,6 @@ use Rattle.fir_gaussian.specs.declared.gaussian_design.Gaussian.{Gaussian}
 use Rattle.fir_gaussian.specs.declared.gaussian_design.GaussianDesigned.TheVariants as GaussianDesigned
 use Rattle.fir_rrc.specs.Rrc as Rrc
 use Rattle.fir_rrc.specs.declared.design.RrcDesigned.{RrcDesigned}
-use Rattle.fir_rrc.specs.declared.design.RrcDesigned.TheVariants as RrcDesigned
 use Rattle.fir_channelizer.specs.Channelizer as Channelizer
 use Rattle.fir_halfband.specs.Halfband as Halfband
 use Rattle.ticket_kinds.specs.declared.LowpassTicket.{LowpassTicket}

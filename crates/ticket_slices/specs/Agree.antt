@@ -13,14 +13,12 @@ use Rattle.verdict.specs.Numbers.{bad_count, bad_sum}
 use Rattle.verdict.specs.declared.Refusal.{Refusal}
 use Rattle.verdict.specs.declared.Refusal.TheVariants.{Plain}
 use Rattle.verdict.specs.Outcome.{Outcome, Fills, Agrees}
-use Rattle.verdict.specs.Outcome as Outcome
 use Rattle.fir_lowpass.specs.Lowpass as Lowpass
 use Rattle.fir_lowpass.proofs.LowpassLaws.{ready_is}
 use Rattle.fir_sinc.specs.declared.window.Window.TheVariants.{Kaiser}
 use Rattle.verdict.specs.declared.Verdict.TheVariants as Verdict
 use Rattle.fir_lowpass.specs.declared.lowpass.Lowpass.{Lowpass}
 use Rattle.fir_lowpass.specs.declared.lowpass.Designed.{Designed}
-use Rattle.fir_lowpass.specs.declared.lowpass.Designed.TheVariants as Designed
 use Rattle.fir_halfband.specs.Halfband.{length_taken, quarter_of, unscaled, divisor_of, halfband_in, halfband_of, tap_of, outcome_of, cleared, mirrored, mirrored_sum, taps_in, halfband_taps_of}
 use Rattle.fir_halfband.specs.HalfbandLaws.{tap_is, halved, accepted}
 use Rattle.fir_halfband.specs.Distance.{taken_odd, left_is_lesser, lesser_distance, vanishes_alike}

@@ -5,7 +5,6 @@ use Rattle.fir_lowpass.specs.Lowpass.{outcome_of}
 use Rattle.fir_lowpass.specs.Cached.{Caches}
 use Rattle.fir_lowpass.specs.declared.lowpass.Lowpass.{Lowpass}
 use Rattle.fir_lowpass.specs.declared.lowpass.Designed.{Designed}
-use Rattle.fir_lowpass.specs.declared.lowpass.Designed.TheVariants as Designed
 
 -- of a design, where it is one: a list that keeps its first raw taps, and a buffer of len bytes for its taps
 pub record FitsLowpass (d : Designed) (rs : List Float) (len : ℕ) : Type 0 where

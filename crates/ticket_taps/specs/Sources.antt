@@ -6,7 +6,6 @@ use Rattle.fir_halfband.specs.Halfband as Halfband
 use Rattle.fir_gaussian.specs.Gaussian as Gaussian
 use Rattle.fir_rrc.specs.Rrc as Rrc
 use Rattle.ticket_taps.specs.declared.Source.{Source}
-use Rattle.ticket_taps.specs.declared.Source.TheVariants as Source
 
 -- tap i
 abbrev pub tap_at : Source → ℕ → Float

@@ -4,10 +4,8 @@ use Rattle.std.proofs.Common.{sym, ap, ◌∙◌, subst}
 use Rattle.laws.specs.Filled.{tabulate}
 use Rattle.verdict.specs.declared.Refusal.{Refusal}
 use Rattle.verdict.specs.Outcome.{Outcome, judged_of, answered, stored, Fills}
-use Rattle.verdict.specs.Outcome as Outcome
 use Rattle.verdict.specs.Reports.{outcome_report, judged_report}
 use Rattle.verdict.specs.declared.Verdict.{Verdict}
-use Rattle.verdict.specs.declared.Verdict.TheVariants as Verdict
 
 module _ {o : Outcome} {before : List Float} where
   pub fills : {n : ℕ} {sum : Float} {tap : ℕ → Float} {after : List Float} → o ≡ Outcome.Designed n sum tap → after ≡ tabulate (length before) tap → Fills o before Verdict.Done after

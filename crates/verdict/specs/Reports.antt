@@ -4,13 +4,9 @@ use Rattle.laws.specs.Binary64.{whole}
 use Rattle.verdict.specs.declared.Report.{Report}
 use Rattle.verdict.specs.Report.{report_of, accepted_of}
 use Rattle.verdict.specs.declared.Length.{Length}
-use Rattle.verdict.specs.declared.Length.TheVariants as Length
 use Rattle.verdict.specs.declared.Judged.{Judged}
-use Rattle.verdict.specs.declared.Judged.TheVariants as Judged
 use Rattle.verdict.specs.declared.Verdict.{Verdict}
-use Rattle.verdict.specs.declared.Verdict.TheVariants as Verdict
 use Rattle.verdict.specs.Outcome.{Outcome}
-use Rattle.verdict.specs.Outcome as Outcome
 
 -- taps
 abbrev pub length_report : Length → Report

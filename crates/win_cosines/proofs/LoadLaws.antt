@@ -8,12 +8,11 @@ use Rattle.std.specs.Float.Ieee.{of_int, round, neg}
 use Rattle.laws.specs.Binary64.{whole}
 use Rattle.laws.specs.Totals.{units, sum_z}
 use Rattle.laws.specs.Units.{mag}
-use Rattle.math_unity.specs.Unity.{within, all_within, near_one, five}
+use Rattle.math_unity.specs.Unity.{within, all_within, near_one}
 use Rattle.verdict.specs.Numbers.{bad_coefficient_count, bad_coefficient, bad_coefficient_sum}
 use Rattle.verdict.specs.declared.Refusal.{Refusal}
 use Rattle.verdict.specs.declared.Refusal.TheVariants.{Plain, Range}
 use Rattle.verdict.specs.declared.Verdict.{Verdict}
-use Rattle.verdict.specs.declared.Verdict.TheVariants as Verdict
 use Rattle.win_shapes.specs.declared.cosines.Cosines.{Cosines}
 use Rattle.win_cosines.specs.declared.Loading.TheVariants.{Loaded, Refused}
 use Rattle.win_cosines.specs.Load.{five_in, cosines_of, numbers_taken, where_passed, load_of}

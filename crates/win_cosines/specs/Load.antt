@@ -8,7 +8,6 @@ use Rattle.math_unity.specs.Unity.{within, near_one, five}
 use Rattle.verdict.specs.Numbers.{bad_coefficient_count, bad_coefficient, bad_coefficient_sum}
 use Rattle.verdict.specs.declared.Refusal.TheVariants.{Plain, Range}
 use Rattle.verdict.specs.declared.Verdict.{Verdict}
-use Rattle.verdict.specs.declared.Verdict.TheVariants as Verdict
 use Rattle.win_shapes.specs.declared.cosines.Cosines.{Cosines}
 use Rattle.win_cosines.specs.declared.Loading.{Loading}
 use Rattle.win_cosines.specs.declared.Loading.TheVariants.{Loaded, Refused}

@@ -6,7 +6,6 @@ use lib.Ieee.{Float}
 use Rattle.laws.specs.Filled.{filled, fill_none, fill_more, fill_all, length_filled}
 use Rattle.verdict.specs.declared.Refusal.{Refusal}
 use Rattle.verdict.specs.declared.Verdict.{Verdict}
-use Rattle.verdict.specs.declared.Verdict.TheVariants as Verdict
 use Rattle.win_sampled.specs.declared.shape.Shape.{Shape}
 use Rattle.win_sampled.specs.declared.shape.Symmetry.{Symmetry}
 use Rattle.win_sampled.specs.Shapes.{norm_of, divisor_of, sample_at, judgement_of, FillsWindow}

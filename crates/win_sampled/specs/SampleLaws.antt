@@ -6,7 +6,6 @@ use Rattle.win_shapes.specs.Windows.{hann_at, harris_at, kaiser_value, kaiser_at
 use Rattle.win_shapes.specs.Steps.{argument_of}
 use Rattle.win_shapes.specs.Steps as Steps
 use Rattle.win_shapes.specs.declared.curve.Curve.{Curve}
-use Rattle.win_shapes.specs.declared.curve.Curve.TheVariants as Curve
 use Rattle.win_sampled.specs.Shapes.{norm_of, shape_at, sample_at}
 use Rattle.win_sampled.specs.declared.shape.Shape.{Shape}
 use Rattle.win_sampled.specs.declared.shape.Shape.TheVariants.{Hann, BlackmanHarris, Kaiser}

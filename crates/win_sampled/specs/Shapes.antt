@@ -13,7 +13,6 @@ use Rattle.verdict.specs.declared.Refusal.TheVariants.{Plain}
 use Rattle.win_shapes.specs.Windows.{angle, hann_at, harris_at, kaiser_at}
 use Rattle.win_settling.specs.Settling.{kaiser_settles}
 use Rattle.verdict.specs.declared.Verdict.{Verdict}
-use Rattle.verdict.specs.declared.Verdict.TheVariants as Verdict
 use Rattle.win_sampled.specs.declared.shape.Shape.{Shape}
 use Rattle.win_sampled.specs.declared.shape.Shape.TheVariants.{Hann, BlackmanHarris, Kaiser}
 use Rattle.win_sampled.specs.declared.shape.Symmetry.{Symmetry}

@@ -13,7 +13,6 @@ use Rattle.verdict.specs.declared.Report.{Report}
 use Rattle.verdict.specs.Report.{report_of, accepted_of}
 use Rattle.verdict.specs.Reports.{outcome_report}
 use Rattle.verdict.specs.Outcome.{Outcome, Agrees}
-use Rattle.verdict.specs.Outcome as Outcome
 use Rattle.verdict.specs.Counted.{Counted}
 
 -- ---- by the outcome alone

@@ -5,7 +5,6 @@ use Rattle.laws.specs.Chunks.{chunks}
 use Rattle.verdict.specs.declared.Refusal.TheVariants.{Length}
 use Rattle.verdict.specs.declared.Report.{Report}
 use Rattle.verdict.specs.Outcome.{Outcome}
-use Rattle.verdict.specs.Outcome as Outcome
 use Rattle.verdict.specs.Reports.{outcome_report}
 
 -- a buffer of len bytes holds whole elements of w bytes, or is refused with the length to the last whole one, in bytes

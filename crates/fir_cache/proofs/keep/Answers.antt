@@ -1,7 +1,6 @@
 -- `fir_cache::keep` meets its contract: a store past the end changes nothing. Assumes nothing.
 use mathlib.Core.Path.{sym}
 use lib.Seq.{set_out}
-use borrow.Author.Rules.{rules}
 use Rattle.fir_cache.proofs.keep.Goals as goal
 
 pub returns-else-k-raws : goal.returns-else-k-raws

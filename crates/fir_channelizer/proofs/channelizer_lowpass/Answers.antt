@@ -1,5 +1,4 @@
 -- `fir_channelizer::channelizer_lowpass` meets its contract. Assumes nothing.
-use Rattle.std.proofs.Common.{rules}
 use Rattle.fir_channelizer.proofs.channelizer_lowpass.Goals as goal
 
 pub returns : goal.returns

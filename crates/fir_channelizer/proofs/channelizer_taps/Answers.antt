@@ -1,7 +1,6 @@
 -- `fir_channelizer::channelizer_taps` meets its contract: what the tests say, and then an answer at a time. Assumes
 -- nothing.
-use Rattle.std.proofs.Common.{◌≡◌, true, false, sym, ap, ◌∙◌, rules}
-use borrow.Author.Tests.{not-true, not-false}
+use Rattle.std.proofs.Common.{◌≡◌, true, false, sym, ap, ◌∙◌}
 use lib.Ieee.{Float, to_unsigned, of_bits, of_int}
 use Rattle.laws.specs.Binary64.{◌⊖◌, ◌⊗◌, ◌⊘◌, whole}
 use Rattle.math_round.specs.Whole.{ceil_of}

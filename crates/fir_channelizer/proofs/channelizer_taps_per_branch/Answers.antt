@@ -1,5 +1,5 @@
 -- `fir_channelizer::channelizer_taps_per_branch` meets its contract. Assumes nothing.
-use Rattle.std.proofs.Common.{◌≤◌, sym, ap, ◌∙◌, arith, rules}
+use Rattle.std.proofs.Common.{◌≤◌, sym, ap, ◌∙◌, arith}
 use Rattle.verdict.specs.declared.Length.TheVariants.{Taps}
 use Rattle.fir_channelizer.specs.Channelizer.{branch_of}
 use Rattle.fir_channelizer.specs.ChannelizerLaws.{channels_are, taps_channels, upward_exact, upward_more, quotient_most}

@@ -1,7 +1,6 @@
 -- `fir_channelizer::check_edges` meets its contract: what each test says, and then an answer at a time. Assumes
 -- nothing.
-use Rattle.std.proofs.Common.{◌≡◌, true, sym, ◌∙◌, rules}
-use borrow.Author.Tests.{not-true, not-false}
+use Rattle.std.proofs.Common.{◌≡◌, true, sym, ◌∙◌}
 use lib.Ieee.{of_bits, of_int}
 use Rattle.math_numbers.specs.Numbers.{positive}
 use Rattle.fir_channelizer.specs.Channelizer.{stop_taken, edges_of}

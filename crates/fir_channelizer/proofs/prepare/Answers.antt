@@ -1,6 +1,5 @@
 -- `fir_channelizer::prepare` meets its contract: what each test says, and then an answer at a time. Assumes nothing.
-use Rattle.std.proofs.Common.{◌≡◌, ◌*◌, true, sym, ap, ◌∙◌, arith, rules}
-use borrow.Author.Tests.{not-true, not-false}
+use Rattle.std.proofs.Common.{◌≡◌, ◌*◌, true, sym, ap, ◌∙◌, arith}
 use lib.Ieee.{Float, of_bits, of_int}
 use Rattle.laws.specs.Binary64.{◌⊕◌, ◌⊗◌, ◌⊘◌, whole}
 use Rattle.fir_lowpass.specs.Lowpass.{where_passed, lowpass_of}

@@ -1,5 +1,5 @@
 -- `fir_channelizer::takes_estimate` meets its contract. Assumes nothing.
-use Rattle.std.proofs.Common.{sym, ◌∙◌, rules}
+use Rattle.std.proofs.Common.{sym, ◌∙◌}
 use lib.Ieee.{of_bits, of_int}
 use Rattle.fir_channelizer.specs.Channelizer.{count_taken}
 use Rattle.fir_channelizer.proofs.takes_estimate.Goals as goal

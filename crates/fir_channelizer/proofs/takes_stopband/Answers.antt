@@ -1,7 +1,6 @@
 -- `fir_channelizer::takes_stopband` meets its contract. Assumes nothing.
-use Rattle.std.proofs.Common.{sym, ◌∙◌, true≢false, rules}
+use Rattle.std.proofs.Common.{sym, ◌∙◌, true≢false}
 use lib.Ieee.{of_bits, round}
-use Rattle.laws.specs.Cases.{either}
 use Rattle.fir_channelizer.specs.Channelizer.{stop_taken}
 use Rattle.fir_channelizer.proofs.takes_stopband.Goals as goal
 use Rattle.fir_channelizer.proofs.takes_stopband.Goals.{else-is_finite, then-is_finite}

@@ -1,6 +1,5 @@
 -- `fir_halfband::cached_tap` meets its contract. Assumes nothing.
 use mathlib.Core.Path.{sym, ap, ◌∙◌}
-use borrow.Author.Rules.{rules}
 use borrow.Author.Tests.{lt-ltb, le-ltb}
 use lib.Ieee.{Float, of_bits, of_int}
 use Rattle.laws.specs.Binary64.{◌⊘◌}

@@ -3,10 +3,8 @@ use mathlib.Core.Path.{◌≡◌, sym, ap, ◌∙◌}
 use mathlib.Core.Bool.{not}
 use Prim.Native.Nat.{ℕ, ◌%◌}
 use native.Mathlib.Omega.{arith}
-use borrow.Author.Rules.{rules}
 use borrow.Author.Tests.{eq-eqb, ne_eqb}
 use lib.Dec.{eqb}
-use Rattle.laws.specs.Cases.{either}
 use Rattle.fir_halfband.specs.Halfband.{distance, vanishes}
 use Rattle.fir_halfband.proofs.is_zero_at.Goals as goal
 use Rattle.fir_halfband.proofs.is_zero_at.Goals.{else-k-m, then-k-m}

@@ -1,8 +1,6 @@
 -- `fir_halfband::prepare` meets its contract: what each test says, and then an answer at a time. Assumes nothing.
 use mathlib.Core.Path.{◌≡◌, sym, ap, ◌∙◌}
 use mathlib.Core.Bool.{true}
-use borrow.Author.Rules.{rules}
-use borrow.Author.Tests.{not-true, not-false}
 use lib.Ieee.{of_bits, of_int, round}
 use Rattle.fir_lowpass.specs.Lowpass.{usable}
 use Rattle.fir_lowpass.specs.declared.lowpass.Lowpass.{Lowpass}

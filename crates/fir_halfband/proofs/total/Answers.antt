@@ -1,11 +1,10 @@
 -- `fir_halfband::total` meets its contract. The loop's invariant: the sum of the taps so far. Assumes nothing.
 use mathlib.Core.Path.{◌≡◌, ap, ◌∙◌}
-use Prim.Native.Nat.{ℕ, ◌≤◌, ◌-◌}
+use Prim.Native.Nat.{ℕ}
 use native.Mathlib.Omega.{arith}
 use lib.Ieee.{Float, binary64, add}
 use Rattle.laws.specs.Sums.{sum_to}
 use Rattle.laws.proofs.SumsLaws.{sum_none, sum_more}
-use Rattle.fir_lowpass.specs.Cached.{Caches}
 use Rattle.fir_halfband.specs.Halfband.{unscaled}
 use Rattle.fir_halfband.proofs.total.Goals as goal
 

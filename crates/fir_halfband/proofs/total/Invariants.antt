@@ -1,10 +1,8 @@
 -- `fir_halfband::total` meets its contract. The loop's invariant: the sum of the taps so far. Assumes nothing.
-use mathlib.Core.Path.{◌≡◌, ap, ◌∙◌}
-use Prim.Native.Nat.{ℕ, ◌≤◌, ◌-◌}
-use native.Mathlib.Omega.{arith}
-use lib.Ieee.{Float, binary64, add}
+use mathlib.Core.Path.{◌≡◌}
+use Prim.Native.Nat.{◌≤◌, ◌-◌}
+use lib.Ieee.{binary64}
 use Rattle.laws.specs.Sums.{sum_to}
-use Rattle.laws.proofs.SumsLaws.{sum_none, sum_more}
 use Rattle.fir_lowpass.specs.Cached.{Caches}
 use Rattle.fir_halfband.specs.Halfband.{unscaled}
 use Rattle.fir_halfband.proofs.total.Given as goal

@@ -2,9 +2,7 @@
 use mathlib.Core.Path.{◌≡◌, sym, ap, ◌∙◌}
 use Prim.Native.Nat.{ℕ, ◌-◌, min}
 use native.Mathlib.Omega.{arith}
-use borrow.Author.Rules.{rules}
 use lib.Ieee.{of_bits, of_int}
-use Rattle.laws.specs.Cases.{either}
 use Rattle.fir_lowpass.specs.Lowpass.{tap_of}
 use Rattle.fir_halfband.specs.Halfband.{unscaled}
 use Rattle.fir_halfband.proofs.unscaled_tap.Goals as goal

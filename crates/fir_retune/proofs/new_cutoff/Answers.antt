@@ -1,7 +1,6 @@
 -- `fir_retune::new_cutoff` meets its contract. Assumes nothing.
 use mathlib.Core.Path.{ap, ◌∙◌}
 use Rattle.fir_retune.specs.Retune.{retuned_of}
-use borrow.Author.Rules.{rules}
 use Rattle.fir_retune.proofs.new_cutoff.Goals as goal
 
 pub returns : goal.returns

@@ -8,7 +8,6 @@ use Rattle.fir_lowpass.specs.Lowpass.{lowpass_of}
 use Rattle.fir_lowpass.proofs.LowpassLaws.{prepares_as, prepares_refusal}
 use Rattle.fir_lowpass.specs.declared.lowpass.Designed.{Designed}
 use Rattle.fir_retune.specs.Retune.{where_kaiser, new_beta_of}
-use borrow.Author.Rules.{rules}
 use Rattle.fir_retune.proofs.prepare_beta.Goals as goal
 
 pub returns-in-Kaiser : goal.returns-in-Kaiser

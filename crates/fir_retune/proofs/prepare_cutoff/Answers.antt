@@ -1,6 +1,5 @@
 -- `fir_retune::prepare_cutoff` meets its contract. Assumes nothing.
 use Rattle.fir_retune.specs.Retune.{new_cutoff_of}
-use borrow.Author.Rules.{rules}
 use Rattle.fir_retune.proofs.prepare_cutoff.Goals as goal
 
 pub returns : goal.returns

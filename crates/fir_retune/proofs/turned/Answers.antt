@@ -1,7 +1,6 @@
 -- `fir_retune::turned` meets its contract, a design and a refusal. Assumes nothing.
 use mathlib.Core.Path.{sym, ap}
 use Rattle.fir_retune.specs.Retune.{retuned_of}
-use borrow.Author.Rules.{rules}
 use Rattle.fir_retune.proofs.turned.Goals as goal
 
 pub returns-in-Ready : goal.returns-in-Ready

@@ -3,7 +3,6 @@ use mathlib.Core.Path.{sym, ap, ◌∙◌}
 use borrow.Author.Tests.{lt-ltb, le-ltb}
 use Rattle.fir_length.specs.declared.order.Order.{Order}
 use Rattle.fir_spec.specs.Spec.{capped_of}
-use borrow.Author.Rules.{rules}
 use Rattle.fir_spec.proofs.capped.Goals as goal
 
 pub returns-then-cap-n : goal.returns-then-cap-n

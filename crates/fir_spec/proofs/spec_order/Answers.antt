@@ -1,13 +1,11 @@
 -- `fir_spec::spec_order` meets its contract: what each test says, and then an answer at a time. Assumes nothing.
 use mathlib.Core.Path.{◌≡◌, sym, ap, ◌∙◌}
 use mathlib.Core.Bool.{true}
-use borrow.Author.Tests.{not-true, not-false}
 use lib.Ieee.{of_bits, of_int}
 use Rattle.laws.specs.Binary64.{◌⊖◌, ◌⊘◌, whole}
 use Rattle.math_numbers.specs.Numbers.{positive}
 use Rattle.fir_length.specs.declared.order.Order.{Order}
 use Rattle.fir_spec.specs.Spec.{cutoff_taken, capped_of, spec_order_of}
-use borrow.Author.Rules.{rules}
 use Rattle.fir_spec.proofs.spec_order.Goals as goal
 
 pub returns-then-not-is_positive : goal.returns-then-not-is_positive

@@ -4,7 +4,6 @@ use borrow.Author.Tests.{eq-eqb, ne_eqb}
 use lib.Ieee.{of_bits, of_int}
 use Rattle.fir_lowpass.proofs.LowpassLaws.{prepares_as, prepares_refusal}
 use Rattle.fir_spec.specs.Spec.{design_in, spec_design_of}
-use borrow.Author.Rules.{rules}
 use Rattle.fir_spec.proofs.spec_prepare.Goals as goal
 
 pub returns-then-n-len : goal.returns-then-n-len

@@ -4,7 +4,6 @@ use lib.Ieee.{of_bits, of_int, round, sub, div, neg, to_signed}
 use lib.Ieee.Casts.{to_signed_in}
 use mir.Syntax.{w16}
 use mir.ValLaws.{to_z-of_z}
-use Rattle.laws.specs.Cases.{either}
 use Rattle.fmt_q14.specs.Q14.{moved}
 use Rattle.fmt_q14.proofs.Q14Laws.{floor_nought, floor_cut, code_number, code_low, code_high}
 use Rattle.fmt_q14.proofs.number.Goals as goal

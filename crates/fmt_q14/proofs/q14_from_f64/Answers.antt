@@ -1,7 +1,6 @@
 -- `fmt_q14::q14_from_f64` meets its contract: both ways give the floor, and the short one asks for a small size.
 -- Assumes nothing.
 use lib.Ieee.{of_bits, of_int, round, neg}
-use borrow.Author.Rules.{rules}
 use Rattle.math_round.specs.NearPaths.{small_of}
 use Rattle.fmt_q14.specs.Q14.{moved}
 use Rattle.fmt_q14.proofs.q14_from_f64.Goals as goal

@@ -1,17 +1,9 @@
 -- `iir_butterworth::butterworth_sos` meets its contract: what `judge` answers, and then the loop. Its invariant: the
 -- sections so far stand at the front. Assumes nothing.
-use mathlib.Core.Path.{◌≡◌, sym, ap, ◌∙◌}
-use mathlib.Core.List.{List}
-use Prim.Native.Nat.{ℕ, ◌*◌, ◌≤◌, ◌-◌}
-use native.Mathlib.Omega.{arith}
-use borrow.Author.Rules.{rules}
-use lib.ListN.{length}
-use lib.Seq.{sets}
-use lib.Ieee.{Float}
-use Rattle.laws.specs.Filled.{tabulate, filled, fill_none, fill_all, length_filled}
-use Rattle.verdict.specs.OutcomeLaws.{fills, leaves}
+use mathlib.Core.Path.{◌≡◌}
+use Prim.Native.Nat.{◌*◌, ◌≤◌, ◌-◌}
+use Rattle.laws.specs.Filled.{filled}
 use Rattle.iir_butterworth.specs.Butterworth.{coef_at}
-use Rattle.iir_butterworth.specs.SectionLaws.{section_stored, Right, right, turned}
 use Rattle.iir_butterworth.proofs.butterworth_sos.Given as goal
 
 abbrev pub invariant-loop-i : goal.invariant-loop-i

@@ -1,5 +1,4 @@
 -- `iir_butterworth::takes_response` meets its contract, a response at a time. Assumes nothing.
-use borrow.Author.Rules.{rules}
 use Rattle.iir_butterworth.specs.Butterworth.{response_taken}
 use Rattle.iir_butterworth.proofs.takes_response.Goals as goal
 

@@ -1,13 +1,9 @@
 -- `math_bessel::bessel_i0_pair` meets its contract. The loop's invariant: the terms so far of both, none before the
 -- last small. Assumes nothing.
-use mathlib.Core.Path.{◌≡◌, refl}
+use mathlib.Core.Path.{◌≡◌}
 use Prim.Native.Nat.{◌+◌, ◌-◌}
-use native.Mathlib.Omega.{arith}
-use lib.Ieee.{binary64, of_bits, of_int, round}
 use Rattle.laws.specs.Binary64.{whole}
-use Rattle.laws.specs.Tests.{neither}
-use Rattle.laws.specs.WholeSums.{add_one_whole}
-use Rattle.math_bessel.specs.Laws.{Going, start, again, half_of, sum_is}
+use Rattle.math_bessel.specs.Laws.{Going}
 use Rattle.math_bessel.proofs.bessel_i0_pair.Given as goal
 
 abbrev pub invariant-loop-k : goal.invariant-loop-k

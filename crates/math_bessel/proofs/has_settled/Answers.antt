@@ -1,7 +1,6 @@
 -- `math_bessel::has_settled` meets its contract. Assumes nothing.
 use mathlib.Core.Path.{sym, ◌∙◌}
 use lib.Ieee.{of_bits, of_int, round}
-use borrow.Author.Rules.{rules}
 use Rattle.math_bessel.proofs.has_settled.Goals as goal
 
 pub returns-then-term-sum : goal.returns-then-term-sum

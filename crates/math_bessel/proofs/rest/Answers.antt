@@ -1,14 +1,12 @@
 -- `math_bessel::rest` meets its contract. The loop's invariant: the terms so far, none before the last small. Assumes
 -- nothing.
-use mathlib.Core.Path.{◌≡◌, refl}
-use Prim.Native.Nat.{◌+◌, ◌-◌, ◌^◌}
+use mathlib.Core.Path.{refl}
+use Prim.Native.Nat.{◌+◌, ◌^◌}
 use native.Mathlib.Omega.{arith}
-use borrow.Author.Rules.{rules}
 use lib.Dec.{le→leb}
 use lib.Ieee.{binary64, of_bits, of_int, in_float, round}
-use Rattle.laws.specs.Binary64.{whole}
 use Rattle.laws.specs.WholeSums.{add_one_whole}
-use Rattle.math_bessel.specs.Laws.{Going, at_last, at_small, again}
+use Rattle.math_bessel.specs.Laws.{at_last, at_small, again}
 use Rattle.math_bessel.proofs.rest.Goals as goal
 
 pub overflow_add-d : goal.overflow_add-d

@@ -1,14 +1,9 @@
 -- `math_bessel::rest` meets its contract. The loop's invariant: the terms so far, none before the last small. Assumes
 -- nothing.
-use mathlib.Core.Path.{◌≡◌, refl}
-use Prim.Native.Nat.{◌+◌, ◌-◌, ◌^◌}
-use native.Mathlib.Omega.{arith}
-use borrow.Author.Rules.{rules}
-use lib.Dec.{le→leb}
-use lib.Ieee.{binary64, of_bits, of_int, in_float, round}
+use mathlib.Core.Path.{◌≡◌}
+use Prim.Native.Nat.{◌+◌, ◌-◌}
 use Rattle.laws.specs.Binary64.{whole}
-use Rattle.laws.specs.WholeSums.{add_one_whole}
-use Rattle.math_bessel.specs.Laws.{Going, at_last, at_small, again}
+use Rattle.math_bessel.specs.Laws.{Going}
 use Rattle.math_bessel.proofs.rest.Given as goal
 
 abbrev pub invariant-loop-n : goal.invariant-loop-n

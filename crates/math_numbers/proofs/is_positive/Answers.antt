@@ -1,5 +1,5 @@
 -- `math_numbers::is_positive` meets its contract. Assumes nothing.
-use Rattle.std.proofs.Common.{sym, ◌∙◌, rules}
+use Rattle.std.proofs.Common.{sym, ◌∙◌}
 use lib.Ieee.{of_bits, of_int}
 use Rattle.math_numbers.specs.Numbers.{positive}
 use Rattle.math_numbers.proofs.is_positive.Goals as goal

@@ -1,6 +1,6 @@
 -- `math_numbers::is_same` meets its contract: what equals something is no NaN, and any other number is known by its
 -- pattern. Assumes nothing.
-use Rattle.std.proofs.Common.{◌≡◌, ℕ, true, false, not, T, sym, refl, ap, ◌∙◌, subst, true≢false, eqb-true}
+use Rattle.std.proofs.Common.{◌≡◌, ℕ, true, not, T, sym, refl, ap, ◌∙◌, subst, true≢false, eqb-true}
 use lib.Ieee.{Float, nan, inf, fin, binary64, of_bits, to_bits, eq, is_nan}
 use lib.Ieee.Bits.{of_bits-to_bits}
 use Rattle.math_numbers.specs.Numbers.{same}

@@ -1,6 +1,5 @@
 -- `math_numbers::to_count` meets its contract. Assumes nothing.
 use lib.Ieee.{of_bits, neg}
-use Rattle.std.proofs.Common.{rules}
 use Rattle.laws.specs.Tests.{holds}
 use Rattle.math_numbers.proofs.Counts.{count_above, count_below}
 use Rattle.math_numbers.proofs.to_count.Goals as goal

@@ -1,5 +1,5 @@
 -- `math_unity::all_within` meets its contract. Assumes nothing.
-use Rattle.std.proofs.Common.{◌≡◌, ◌&&◌, sym, ◌∙◌, rules}
+use Rattle.std.proofs.Common.{◌≡◌, ◌&&◌, sym, ◌∙◌}
 use Rattle.laws.specs.Tests.{holds}
 use Rattle.math_unity.specs.Unity.{all_within, five}
 use Rattle.math_unity.specs.UnityLaws.{all_five, all_held}

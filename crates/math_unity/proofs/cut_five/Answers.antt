@@ -1,5 +1,5 @@
 -- `math_unity::cut_five` meets its contract. Assumes nothing.
-use Rattle.std.proofs.Common.{refl, arith, rules}
+use Rattle.std.proofs.Common.{refl, arith}
 use Rattle.laws.specs.SumError.{sum_of}
 use Rattle.math_unity.specs.Run.{each_of}
 use Rattle.math_unity.proofs.cut_five.Goals as goal

@@ -1,5 +1,5 @@
 -- `math_unity::five_below` meets its contract. Assumes nothing.
-use Rattle.std.proofs.Common.{refl, rules}
+use Rattle.std.proofs.Common.{refl}
 use Rattle.math_unity.specs.Run.{each_of}
 use Rattle.math_unity.proofs.five_below.Goals as goal
 

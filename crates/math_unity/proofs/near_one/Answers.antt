@@ -1,5 +1,5 @@
 -- `math_unity::near_one` meets its contract. Assumes nothing.
-use Rattle.std.proofs.Common.{refl, rules}
+use Rattle.std.proofs.Common.{refl}
 use Rattle.math_unity.specs.Unity.{five}
 use Rattle.math_unity.specs.Digits.{near_run}
 use Rattle.math_unity.specs.UnityLaws.{rests_of}

@@ -1,8 +1,7 @@
 -- `math_unity::no_more` meets its contract. The invariant: what is left to do answers as the whole does. Assumes
 -- nothing.
-use Rattle.std.proofs.Common.{refl, arith, lit≤}
 use Rattle.math_unity.specs.Unity.{five}
-use Rattle.math_unity.specs.UnityLaws.{Going, going, going_sizes, going_end, going_no, going_yes}
+use Rattle.math_unity.specs.UnityLaws.{Going}
 use Rattle.math_unity.proofs.no_more.Given as goal
 
 abbrev pub invariant-loop-left : goal.invariant-loop-left

@@ -1,6 +1,5 @@
 -- `math_unity::sums_to_one` meets its contract. Assumes nothing.
-use Rattle.std.proofs.Common.{sym, refl, ◌∙◌, lit≤, rules}
-use borrow.Author.Tests.{not-true, not-false}
+use Rattle.std.proofs.Common.{sym, refl, ◌∙◌, lit≤}
 use Rattle.math_unity.specs.Unity.{five}
 use Rattle.math_unity.specs.UnityLaws.{both_sizes, near_by}
 use Rattle.math_unity.proofs.sums_to_one.Goals as goal

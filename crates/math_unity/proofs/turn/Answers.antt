@@ -1,5 +1,5 @@
 -- `math_unity::turn` meets its contract. Assumes nothing.
-use Rattle.std.proofs.Common.{refl, rules}
+use Rattle.std.proofs.Common.{refl}
 use Rattle.math_unity.proofs.turn.Goals as goal
 
 pub returns : goal.returns

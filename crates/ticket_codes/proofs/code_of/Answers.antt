@@ -1,6 +1,5 @@
 -- `ticket_codes::code_of` meets its contract, a window at a time. Assumes nothing.
 use mathlib.Core.Path.{sym}
-use borrow.Author.Rules.{rules}
 use Rattle.ticket_codes.specs.Codes.{code_of}
 use Rattle.ticket_codes.proofs.code_of.Goals as goal
 

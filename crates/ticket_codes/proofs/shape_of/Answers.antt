@@ -1,6 +1,5 @@
 -- `ticket_codes::shape_of` meets its contract, a window at a time. Assumes nothing.
 use mathlib.Core.Path.{sym}
-use borrow.Author.Rules.{rules}
 use lib.Ieee.{of_bits, of_int}
 use Rattle.ticket_codes.specs.Codes.{shape_of}
 use Rattle.ticket_codes.proofs.shape_of.Goals as goal

@@ -3,11 +3,10 @@
 use mathlib.Core.Path.{◌≡◌, ap, sym, ◌∙◌}
 use mathlib.Core.List.{[], ◌∷◌}
 use Prim.Native.Nat.{ℕ, ◌+◌, ◌*◌}
-use lib.ListN.{length, take}
+use lib.ListN.{take}
 use Rattle.ticket_record.specs.Record.{record_bytes, field_list}
 use Rattle.ticket_record.specs.Stores.{RecordFront, no_fields, one_field, all_fields}
 use native.Mathlib.Omega.{arith}
-use borrow.Author.Rules.{rules}
 use Rattle.ticket_record.proofs.put_record.Goals as goal
 
 pub returns-then-count-eq2 : goal.returns-then-count-eq2

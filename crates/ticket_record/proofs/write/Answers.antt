@@ -1,12 +1,9 @@
 -- `ticket_record::write` meets its contract: a window without a code, another length, and the record. Assumes nothing.
 use mathlib.Core.Path.{◌≡◌}
 use mathlib.Core.Bool.{true}
-use borrow.Author.Tests.{ltb-true, ltb-false}
-use Rattle.laws.specs.Cases.{either}
 use Rattle.ticket_kinds.specs.Kinds.{has_code}
 use Rattle.ticket_record.specs.RecordLaws.{no_code, coded, few, loaded, other_length, record_whole}
 use native.Mathlib.Omega.{arith}
-use borrow.Author.Rules.{rules}
 use Rattle.ticket_record.proofs.write.Goals as goal
 use Rattle.ticket_record.proofs.write.Goals.{else-kind-eq1-via-then-kind-eq1+else-n-gt3, else-kind-eq1-via-else-kind-eq1}
 

@@ -1,15 +1,11 @@
 -- `ticket_taps::put_cached` meets its contract. The loop's invariant: the first i taps stand in the buffer, and the
 -- rest is as it came. Assumes nothing.
-use mathlib.Core.Path.{◌≡◌, ap}
-use Prim.Native.Nat.{ℕ, ◌*◌, ◌-◌, ◌≤◌}
-use native.Mathlib.Omega.{arith}
-use lib.ListN.{length}
-use lib.Ieee.{Float, binary64, to_bits}
+use Prim.Native.Nat.{ℕ, ◌-◌, ◌≤◌}
+use lib.Ieee.{binary64, to_bits}
 use Rattle.fir_lowpass.specs.Lowpass.{tap_of}
 use Rattle.fir_lowpass.specs.declared.lowpass.Lowpass.{Lowpass}
 use Rattle.fir_lowpass.specs.Cached.{Caches}
-use Rattle.fir_lowpass.specs.CachedLaws.{cached_is}
-use Rattle.wire.specs.WrittenPrefix.{WrittenPrefix, at_first, one_more}
+use Rattle.wire.specs.WrittenPrefix.{WrittenPrefix}
 use Rattle.ticket_taps.proofs.put_cached.Given as goal
 
 -- the pattern of tap k

@@ -1,7 +1,6 @@
 -- `ticket_taps::put_first` meets its contract. Assumes nothing.
 use mathlib.Core.Path.{sym, ap, ◌∙◌, subst}
 use native.Mathlib.Omega.{arith}
-use borrow.Author.Rules.{rules}
 use Rattle.laws.specs.Chunks.{chunked}
 use Rattle.wire.specs.Bytes.{float_bytes}
 use Rattle.ticket_taps.specs.declared.Source.{Source}

@@ -1,15 +1,11 @@
 -- `ticket_taps::put_taps` meets its contract. The loop's invariant: where the first taps stood in a buffer that came,
 -- as many as the loop began with, the first i stand in it now. Assumes nothing.
 use mathlib.Core.Path.{◌≡◌, refl, ap, ◌∙◌}
-use mathlib.Core.List.{List}
-use Prim.Native.Nat.{ℕ, ◌*◌, ◌-◌, ◌/◌, ◌≤◌}
+use Prim.Native.Nat.{◌/◌}
 use native.Mathlib.Omega.{arith}
 use lib.ListN.{length}
 use lib.Ieee.{Float, binary64, to_bits}
-use Rattle.ticket_taps.specs.declared.Source.{Source}
-use Rattle.ticket_taps.specs.Sources.{tap_at, CachedFor}
-use Rattle.wire.specs.WrittenPrefix.{WrittenPrefix, one_more}
-use Rattle.ticket_taps.proofs.put_taps.Invariants.{tap_bits}
+use Rattle.wire.specs.WrittenPrefix.{one_more}
 use Rattle.ticket_taps.proofs.put_taps.Goals as goal
 
 pub loop-i-init : goal.loop-i-init

@@ -2,7 +2,6 @@
 use mathlib.Core.Path.{sym, ap, subst, ◌∙◌}
 use Rattle.ticket_taps.specs.Sources.{tap_at, CachedFor}
 use Rattle.ticket_taps.specs.declared.Source.{Source}
-use borrow.Author.Rules.{rules}
 use Rattle.ticket_taps.proofs.tap_at.Goals as goal
 
 pub returns-in-Lowpass : goal.returns-in-Lowpass

@@ -1,5 +1,5 @@
 -- `verdict::refused` meets its contract, a shape at a time. Assumes nothing.
-use Rattle.std.proofs.Common.{sym, ◌∙◌, rules}
+use Rattle.std.proofs.Common.{sym, ◌∙◌}
 use Rattle.verdict.specs.Report.{report_of}
 use lib.Ieee.{of_int, of_bits}
 use Rattle.verdict.proofs.refused.Goals as goal

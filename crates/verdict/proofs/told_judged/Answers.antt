@@ -1,5 +1,5 @@
 -- `verdict::told_judged` meets its contract, a design and a refusal. Assumes nothing.
-use Rattle.std.proofs.Common.{sym, ap, ◌∙◌, rules}
+use Rattle.std.proofs.Common.{sym, ap, ◌∙◌}
 use Rattle.verdict.specs.Reports.{judged_report}
 use Rattle.verdict.proofs.told_judged.Goals as goal
 

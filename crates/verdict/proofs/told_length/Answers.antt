@@ -1,5 +1,5 @@
 -- `verdict::told_length` meets its contract, a number and a refusal. Assumes nothing.
-use Rattle.std.proofs.Common.{sym, ap, ◌∙◌, rules}
+use Rattle.std.proofs.Common.{sym, ap, ◌∙◌}
 use lib.Ieee.{of_int, of_bits}
 use Rattle.verdict.specs.Reports.{length_report}
 use Rattle.verdict.proofs.told_length.Goals as goal

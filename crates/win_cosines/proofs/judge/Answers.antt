@@ -1,6 +1,5 @@
 -- `win_cosines::judge` meets its contract, a number at a time. Assumes nothing.
-use Rattle.std.proofs.Common.{sym, ◌∙◌, rules}
-use borrow.Author.Tests.{not-true, not-false}
+use Rattle.std.proofs.Common.{sym, ◌∙◌}
 use Rattle.win_cosines.specs.Load.{numbers_taken}
 use Rattle.win_cosines.proofs.judge.Goals as goal
 

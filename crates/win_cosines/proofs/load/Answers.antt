@@ -1,5 +1,5 @@
 -- `win_cosines::load` meets its contract. Assumes nothing.
-use Rattle.std.proofs.Common.{refl, rules}
+use Rattle.std.proofs.Common.{refl}
 use Rattle.win_cosines.proofs.load.Goals as goal
 
 pub returns : goal.returns

@@ -1,5 +1,5 @@
 -- `win_cosines::loaded` meets its contract. Assumes nothing.
-use Rattle.std.proofs.Common.{Bool, cond, sym, ap, ◌∙◌, arith, rules}
+use Rattle.std.proofs.Common.{Bool, cond, sym, ap, ◌∙◌, arith}
 use Rattle.verdict.specs.Numbers.{bad_coefficient_sum}
 use Rattle.verdict.specs.declared.Refusal.TheVariants.{Plain}
 use Rattle.win_cosines.specs.declared.Loading.TheVariants.{Loaded, Refused}

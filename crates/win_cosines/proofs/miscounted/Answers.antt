@@ -1,5 +1,5 @@
 -- `win_cosines::miscounted` meets its contract. Assumes nothing.
-use Rattle.std.proofs.Common.{refl, rules}
+use Rattle.std.proofs.Common.{refl}
 use lib.Ieee.{of_bits, of_int, round}
 use Rattle.win_cosines.proofs.miscounted.Goals as goal
 

@@ -1,5 +1,5 @@
 -- `win_cosines::number_at` meets its contract. Assumes nothing.
-use Rattle.std.proofs.Common.{sym, rules}
+use Rattle.std.proofs.Common.{sym}
 use lib.Ieee.{nan, of_bits, of_int}
 use lib.ListN.{get_or-eq_default}
 use Rattle.laws.specs.Binary64.{whole}

@@ -1,5 +1,5 @@
 -- `win_gain::gain_of` meets its contract. Assumes nothing.
-use Rattle.std.proofs.Common.{sym, rules, eq-eqb, ne_eqb}
+use Rattle.std.proofs.Common.{sym, eq-eqb, ne_eqb}
 use lib.Ieee.{of_bits, of_int}
 use Rattle.win_gain.specs.Gain.{summed}
 use Rattle.win_gain.proofs.gain_of.Goals as goal

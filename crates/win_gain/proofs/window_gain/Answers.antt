@@ -1,6 +1,6 @@
 -- `win_gain::window_gain` meets its contract. The loop's invariant: both sums so far. Assumes nothing.
-use Rattle.std.proofs.Common.{◌≡◌, ℕ, ◌+◌, ◌-◌, ◌≤◌, List, length, get_or, ap, ◌∙◌, arith, rules}
-use lib.Ieee.{Float, nan, binary64}
+use Rattle.std.proofs.Common.{◌≡◌, ℕ, ◌+◌, length, ap, ◌∙◌, arith}
+use lib.Ieee.{Float, binary64}
 use Rattle.laws.specs.Binary64.{◌⊕◌, ◌⊗◌}
 use Rattle.laws.specs.Sums.{sum_to}
 use Rattle.laws.proofs.SumsLaws.{sum_none, sum_more}

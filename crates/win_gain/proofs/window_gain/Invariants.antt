@@ -1,10 +1,8 @@
 -- `win_gain::window_gain` meets its contract. The loop's invariant: both sums so far. Assumes nothing.
-use Rattle.std.proofs.Common.{◌≡◌, ℕ, ◌+◌, ◌-◌, ◌≤◌, List, length, get_or, ap, ◌∙◌, arith, rules}
+use Rattle.std.proofs.Common.{◌≡◌, ℕ, ◌-◌, ◌≤◌, List, length, get_or}
 use lib.Ieee.{Float, nan, binary64}
-use Rattle.laws.specs.Binary64.{◌⊕◌, ◌⊗◌}
+use Rattle.laws.specs.Binary64.{◌⊗◌}
 use Rattle.laws.specs.Sums.{sum_to}
-use Rattle.laws.proofs.SumsLaws.{sum_none, sum_more}
-use Rattle.win_gain.specs.Gain.{gain_of}
 use Rattle.win_gain.proofs.window_gain.Given as goal
 
 -- a sample, and its square

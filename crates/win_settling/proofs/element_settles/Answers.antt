@@ -1,5 +1,5 @@
 -- `win_settling::element_settles` meets its contract. Assumes nothing.
-use Rattle.std.proofs.Common.{ap, ◌∙◌, rules}
+use Rattle.std.proofs.Common.{ap, ◌∙◌}
 use Rattle.math_bessel.specs.Series.{settled}
 use Rattle.math_bessel.specs.declared.Series.{Series}
 use Rattle.win_settling.proofs.element_settles.Goals as goal

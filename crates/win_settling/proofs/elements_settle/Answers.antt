@@ -1,6 +1,5 @@
 -- `win_settling::elements_settle` meets its contract. The loop's invariant: those so far have settled. Assumes nothing.
-use Rattle.std.proofs.Common.{◌≡◌, ℕ, ◌-◌, ◌<◌, true, sym, ◌∙◌, arith, rules}
-use borrow.Author.Tests.{not-true, not-false}
+use Rattle.std.proofs.Common.{sym, ◌∙◌, arith}
 use Rattle.laws.specs.Every.{every_all, every_fails, one_more}
 use Rattle.win_settling.specs.Settling.{element_settles}
 use Rattle.win_settling.proofs.elements_settle.Goals as goal

@@ -1,9 +1,8 @@
 -- `win_settling::settles` meets its contract: what each test says, and then an answer at a time. Assumes nothing.
-use Rattle.std.proofs.Common.{sym, ap, ◌∙◌, rules}
+use Rattle.std.proofs.Common.{sym, ap, ◌∙◌}
 use borrow.Author.Tests.{not-true, not-false}
 use lib.Ieee.{of_bits, of_int}
 use Rattle.laws.specs.Tests.{holds}
-use Rattle.math_bessel.specs.Series.{settled}
 use Rattle.math_bessel.specs.declared.Series.{Series}
 use Rattle.win_settling.specs.SettlingLaws.{settles_to_713, no_divisor, not_at_beta, at_elements}
 use Rattle.win_settling.proofs.settles.Goals as goal

@@ -1,5 +1,4 @@
 -- `wire::float_of` meets its contract: the test tells a NaN's pattern. Assumes nothing.
-use borrow.Author.Rules.{rules}
 use lib.Ieee.{div, of_bits, binary64}
 use Rattle.wire.specs.Read.{nan_above, not_nan}
 use Rattle.wire.proofs.float_of.Goals as goal

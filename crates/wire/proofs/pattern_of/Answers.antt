@@ -1,6 +1,5 @@
 -- `wire::pattern_of` meets its contract: the test tells a NaN. Assumes nothing.
 use mathlib.Core.Path.{sym, ◌∙◌}
-use borrow.Author.Rules.{rules}
 use lib.Ieee.{to_bits}
 use Rattle.laws.specs.Tests.{fails, ne_self, is_nan_lem}
 use Rattle.wire.proofs.pattern_of.Goals as goal

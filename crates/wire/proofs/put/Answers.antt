@@ -1,7 +1,6 @@
 -- `wire::put` meets its contract: the two tests are the definition's one. Assumes nothing.
 use mathlib.Core.Path.{sym}
 use native.Mathlib.Omega.{arith}
-use borrow.Author.Rules.{rules}
 use Rattle.wire.specs.Laws.{put_fits, put_short}
 use Rattle.wire.proofs.put.Goals as goal
 

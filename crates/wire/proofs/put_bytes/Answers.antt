@@ -1,12 +1,9 @@
 -- `wire::put_bytes` meets its contract. The loop's invariant: storing what is left gives what storing everything would
 -- have given at first. Assumes nothing.
 use mathlib.Core.Path.{◌≡◌, refl, ◌∙◌}
-use Prim.Native.Nat.{◌+◌, ◌-◌, ◌≤◌}
+use Prim.Native.Nat.{◌+◌, ◌-◌}
 use native.Mathlib.Omega.{arith}
-use borrow.Author.Rules.{rules}
-use lib.ListN.{length, length-set}
-use lib.Seq.{sets}
-use Rattle.wire.specs.Bytes.{bytes_of}
+use lib.ListN.{length-set}
 use Rattle.wire.specs.Laws.{store_none, store_next}
 use Rattle.wire.proofs.put_bytes.Goals as goal
 

@@ -1,5 +1,4 @@
 -- `wire::put_f64` meets its contract. Assumes nothing.
-use borrow.Author.Rules.{rules}
 use Rattle.wire.proofs.put_f64.Goals as goal
 
 pub returns : goal.returns

@@ -2,7 +2,6 @@
 use mathlib.Core.Path.{ap, ◌∙◌}
 use Prim.Native.Nat.{ℕ}
 use Rattle.verdict.specs.Reports.{done_report}
-use borrow.Author.Rules.{rules}
 use Rattle.c_card.proofs.reading.pel_check_card.Goals as goal
 
 pub returns : goal.returns

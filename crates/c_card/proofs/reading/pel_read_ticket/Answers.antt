@@ -2,7 +2,6 @@
 use mathlib.Core.Path.{sym, ap, ◌∙◌}
 use lib.Ieee.{of_int, of_bits}
 use Rattle.c_card.specs.Cards.{told_of}
-use borrow.Author.Rules.{rules}
 use Rattle.c_card.proofs.reading.pel_read_ticket.Goals as goal
 
 pub returns-in-Read : goal.returns-in-Read

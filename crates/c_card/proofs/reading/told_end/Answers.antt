@@ -2,7 +2,6 @@
 use mathlib.Core.Path.{sym, ap, ◌∙◌}
 use lib.Ieee.{of_int, of_bits}
 use Rattle.verdict.specs.Reports.{done_report}
-use borrow.Author.Rules.{rules}
 use Rattle.c_card.proofs.reading.told_end.Goals as goal
 
 pub returns-in-Done : goal.returns-in-Done

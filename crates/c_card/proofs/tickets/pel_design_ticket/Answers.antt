@@ -4,7 +4,6 @@ use lib.ListN.{length}
 use Rattle.wire.proofs.WritesLaws.{leaves, writes_same}
 use Rattle.ticket_kinds.specs.declared.numbers.Formed.{Formed}
 use Rattle.c_card.specs.Tickets.{bytes_for}
-use borrow.Author.Rules.{rules}
 use Rattle.c_card.proofs.tickets.pel_design_ticket.Goals as goal
 
 pub returns-in-Known : goal.returns-in-Known

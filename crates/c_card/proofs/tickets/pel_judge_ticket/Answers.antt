@@ -5,7 +5,6 @@ use Rattle.verdict.specs.Reports.{outcome_report, judged_report}
 use Rattle.ticket_kinds.specs.declared.numbers.Formed.{Formed}
 use Rattle.ticket_design.specs.Design.{judgement_of}
 use Rattle.c_card.specs.Tickets.{judged_for}
-use borrow.Author.Rules.{rules}
 use Rattle.c_card.proofs.tickets.pel_judge_ticket.Goals as goal
 
 pub returns-in-Known : goal.returns-in-Known

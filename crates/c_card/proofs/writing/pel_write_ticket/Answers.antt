@@ -4,7 +4,6 @@ use lib.ListN.{length}
 use Rattle.verdict.specs.Reports.{done_report}
 use Rattle.ticket_kinds.specs.declared.numbers.Formed.{Formed}
 use Rattle.c_card.specs.Writing.{written_for, left_for}
-use borrow.Author.Rules.{rules}
 use Rattle.c_card.proofs.writing.pel_write_ticket.Goals as goal
 
 pub returns-in-Known : goal.returns-in-Known

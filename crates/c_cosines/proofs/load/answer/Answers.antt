@@ -1,6 +1,5 @@
 -- `c_cosines::load::answer` meets its contract. Assumes nothing.
 use mathlib.Core.Path.{sym, ap}
-use borrow.Author.Rules.{rules}
 use lib.Ieee.{of_bits, of_int}
 use Rattle.win_cosines.specs.declared.Loading.{Loading}
 use Rattle.c_cosines.specs.Loads.{answer_of}

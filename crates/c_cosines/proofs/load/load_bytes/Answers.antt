@@ -1,6 +1,5 @@
 -- `c_cosines::load::load_bytes` meets its contract. Assumes nothing.
 use mathlib.Core.Path.{refl, sym, ◌∙◌}
-use borrow.Author.Rules.{rules}
 use borrow.Author.Tests.{eq-eqb, ne_eqb}
 use Rattle.c_cosines.specs.Loads.{numbers_in, load_bytes}
 use Rattle.c_cosines.specs.LoadsLaws.{how_many}

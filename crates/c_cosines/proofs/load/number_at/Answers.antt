@@ -1,6 +1,5 @@
 -- `c_cosines::load::number_at` meets its contract. Assumes nothing.
 use mathlib.Core.Path.{◌∙◌}
-use borrow.Author.Rules.{rules}
 use lib.Ieee.{of_bits, of_int}
 use Rattle.laws.specs.Binary64.{whole}
 use Rattle.c_cosines.specs.LoadsLaws.{given, not_given}

@@ -1,7 +1,6 @@
 -- `c_cosines::load::pel_load_cosines` meets its contract. Assumes nothing.
 use mathlib.Core.Path.{ap, ◌∙◌}
 use Prim.Native.Nat.{◌/◌}
-use borrow.Author.Rules.{rules}
 use lib.ListN.{length}
 use Rattle.win_cosines.specs.declared.Loading.{Loading}
 use Rattle.c_cosines.specs.Loads.{answer_of}

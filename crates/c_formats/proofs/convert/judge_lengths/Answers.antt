@@ -2,7 +2,6 @@
 use mathlib.Core.Path.{sym, ◌∙◌}
 use Prim.Native.Nat.{◌/◌}
 use native.Mathlib.Nat.{mod-le}
-use borrow.Author.Rules.{rules}
 use Rattle.verdict.specs.ConvertsLaws.{part_group, other_count, same_count}
 use Rattle.c_formats.specs.ConversionLaws.{part_source, part_destination, whole_elements}
 use Rattle.c_formats.proofs.convert.judge_lengths.Goals as goal

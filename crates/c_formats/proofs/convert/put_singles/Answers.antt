@@ -1,9 +1,8 @@
 -- `c_formats::convert::put_singles` meets its contract. The loop's invariant is that of `put_elements`. Assumes
 -- nothing.
 use mathlib.Core.Path.{◌≡◌, sym, ap, ◌∙◌}
-use Prim.Native.Nat.{◌*◌, ◌-◌, ◌≤◌}
+use Prim.Native.Nat.{◌*◌}
 use native.Mathlib.Omega.{arith}
-use borrow.Author.Rules.{rules}
 use lib.Ieee.{Float, binary32, to_bits}
 use Rattle.wire.specs.Bytes.{float_at}
 use Rattle.fmt_f32.specs.Single.{single_of}
@@ -11,7 +10,7 @@ use Rattle.c_formats.specs.declared.element.Format.TheVariants.{Single}
 use Rattle.c_formats.specs.declared.element.Encoded.TheVariants.{Pattern}
 use Rattle.c_formats.specs.Formats.{width_of, pattern_of}
 use Rattle.c_formats.specs.FormatLaws.{encoded_single}
-use Rattle.c_formats.specs.ConversionLaws.{Reached, at_first, at_end, one_more}
+use Rattle.c_formats.specs.ConversionLaws.{at_first, at_end, one_more}
 use Rattle.c_formats.proofs.convert.put_singles.Goals as goal
 
 pub loop-i-init : goal.loop-i-init

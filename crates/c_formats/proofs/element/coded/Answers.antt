@@ -2,7 +2,6 @@
 use mathlib.Core.Path.{sym, ap, ◌∙◌}
 use mir.Syntax.{w16}
 use mir.ValLaws.{to_z-of_z}
-use borrow.Author.Rules.{rules}
 use Rattle.wire.specs.Bytes.{twos_of}
 use Rattle.c_formats.specs.declared.element.Encoded.TheVariants.{Pattern}
 use Rattle.c_formats.specs.Formats.{coded_of}

@@ -1,6 +1,5 @@
 -- `c_formats::element::encode` meets its contract. Assumes nothing.
 use mathlib.Core.Path.{sym, ap, ◌∙◌}
-use borrow.Author.Rules.{rules}
 use Rattle.c_formats.specs.declared.element.Format.{Format}
 use Rattle.c_formats.specs.declared.element.Encoded.TheVariants.{Pattern}
 use Rattle.c_formats.specs.Formats.{pattern_of, encoded_of, coded_of}

@@ -1,6 +1,5 @@
 -- `c_formats::element::width` meets its contract. Assumes nothing.
 use mathlib.Core.Path.{sym, ap}
-use borrow.Author.Rules.{rules}
 use Rattle.c_formats.specs.Formats.{width_of}
 use Rattle.c_formats.proofs.element.width.Goals as goal
 

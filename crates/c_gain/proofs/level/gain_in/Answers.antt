@@ -1,13 +1,12 @@
 -- `c_gain::level::gain_in` meets its contract. The invariant of both loops: the two sums so far. Assumes nothing.
 use mathlib.Core.Path.{◌≡◌, refl, sym, ap, ◌∙◌}
 use mathlib.Core.List.{List}
-use Prim.Native.Nat.{ℕ, ◌+◌, ◌*◌, ◌-◌, ◌/◌, ◌<◌, ◌≤◌}
+use Prim.Native.Nat.{ℕ, ◌+◌, ◌*◌, ◌/◌, ◌<◌, ◌≤◌}
 use native.Mathlib.Omega.{arith}
-use lib.ListN.{length, get_or}
+use lib.ListN.{length}
 use lib.Ieee.{Float, nan, binary64}
 use Rattle.laws.specs.Binary64.{◌⊕◌, ◌⊗◌}
 use Rattle.laws.specs.Filled.{length_tabulate, get_d_tabulate}
-use Rattle.laws.specs.Sums.{sum_to}
 use Rattle.laws.proofs.SumsLaws.{sum_none, sum_more}
 use Rattle.wire.specs.Bytes.{single_at}
 use Rattle.win_gain.specs.Gain.{summed, gain_of}

@@ -5,7 +5,6 @@ use Rattle.verdict.specs.Outcome.{Outcome}
 use Rattle.c_lowpass.specs.Lowpass.{lowpass_bytes}
 use Rattle.wire.proofs.WritesLaws.{leaves, writes_same}
 use Rattle.ticket_codes.specs.declared.Coded.{Coded}
-use borrow.Author.Rules.{rules}
 use Rattle.c_lowpass.proofs.lowpass.pel_lowpass.Goals as goal
 
 pub returns-in-Known : goal.returns-in-Known

@@ -1,6 +1,5 @@
 -- `c_lowpass::lowpass::pel_lowpass_new` meets its contract, a code that is known and one that is not. Assumes nothing.
 use mathlib.Core.Path.{sym, ap, ◌∙◌}
-use borrow.Author.Rules.{rules}
 use Rattle.fir_lowpass.specs.Lowpass.{outcome_of}
 use Rattle.verdict.specs.Reports.{outcome_report}
 use Rattle.c_lowpass.specs.Lowpass.{lowpass_coded}

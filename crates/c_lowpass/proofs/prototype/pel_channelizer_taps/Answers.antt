@@ -1,6 +1,5 @@
 -- `c_lowpass::prototype::pel_channelizer_taps` meets its contract. Assumes nothing.
 use mathlib.Core.Path.{ap, ◌∙◌}
-use borrow.Author.Rules.{rules}
 use Rattle.verdict.specs.Reports.{length_report}
 use Rattle.c_lowpass.proofs.prototype.pel_channelizer_taps.Goals as goal
 

@@ -1,6 +1,5 @@
 -- `c_lowpass::spec::pel_spec_lowpass` meets its contract. Assumes nothing.
 use mathlib.Core.Path.{ap, ◌∙◌}
-use borrow.Author.Rules.{rules}
 use Rattle.fir_lowpass.specs.Lowpass.{outcome_of}
 use Rattle.fir_lowpass.specs.declared.lowpass.Designed.{Designed}
 use Rattle.verdict.specs.Reports.{outcome_report}

@@ -1,6 +1,5 @@
 -- `c_lowpass::spec::pel_spec_num_taps` meets its contract. Assumes nothing.
 use mathlib.Core.Path.{ap, ◌∙◌}
-use borrow.Author.Rules.{rules}
 use Rattle.verdict.specs.Reports.{length_report}
 use Rattle.c_lowpass.proofs.spec.pel_spec_num_taps.Goals as goal
 

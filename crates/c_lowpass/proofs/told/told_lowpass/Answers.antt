@@ -1,6 +1,5 @@
 -- `c_lowpass::told::told_lowpass` meets its contract, a design and a refusal. Assumes nothing.
 use mathlib.Core.Path.{sym, ap, ◌∙◌}
-use borrow.Author.Rules.{rules}
 use Rattle.verdict.specs.declared.Report.{Report}
 use Rattle.fir_lowpass.specs.declared.lowpass.Designed.{Designed}
 use Rattle.verdict.specs.Reports.{outcome_report}

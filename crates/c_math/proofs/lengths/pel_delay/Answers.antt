@@ -1,6 +1,5 @@
 -- `c_math::lengths::pel_delay` meets its contract, an answer of `delay` at a time. Assumes nothing.
 use mathlib.Core.Path.{sym, ap, ◌∙◌}
-use borrow.Author.Rules.{rules}
 use lib.Ieee.{of_int, of_bits}
 use Rattle.c_math.specs.Reports.{delay_report}
 use Rattle.c_math.proofs.lengths.pel_delay.Goals as goal

@@ -1,6 +1,5 @@
 -- `c_math::lengths::pel_halfband_len` meets its contract. Assumes nothing.
 use mathlib.Core.Path.{ap, ◌∙◌}
-use borrow.Author.Rules.{rules}
 use Rattle.verdict.specs.Reports.{length_report}
 use Rattle.c_math.proofs.lengths.pel_halfband_len.Goals as goal
 

@@ -1,6 +1,5 @@
 -- `c_math::lengths::pel_kaiserord` meets its contract, an answer of `kaiserord` at a time. Assumes nothing.
 use mathlib.Core.Path.{sym, ap, ◌∙◌}
-use borrow.Author.Rules.{rules}
 use Rattle.c_math.specs.Reports.{order_report}
 use Rattle.c_math.proofs.lengths.pel_kaiserord.Goals as goal
 

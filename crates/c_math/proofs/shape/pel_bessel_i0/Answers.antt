@@ -1,7 +1,6 @@
 -- `c_math::shape::pel_bessel_i0` meets its contract, as the series has settled or not. Assumes nothing.
 use mathlib.Core.Path.{◌≡◌, sym, ap, ◌∙◌}
 use mathlib.Core.Bool.{true, false}
-use borrow.Author.Rules.{rules}
 use lib.Ieee.{of_bits, of_int}
 use Rattle.verdict.specs.Report.{accepted_of}
 use Rattle.math_bessel.specs.declared.Series.{Series}

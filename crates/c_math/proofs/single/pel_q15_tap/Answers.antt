@@ -1,6 +1,5 @@
 -- `c_math::single::pel_q15_tap` meets its contract. Assumes nothing.
 use mathlib.Core.Path.{ap, ◌∙◌}
-use borrow.Author.Rules.{rules}
 use Rattle.c_math.specs.Reports.{coded_report}
 use Rattle.c_math.proofs.single.pel_q15_tap.Goals as goal
 

@@ -4,7 +4,6 @@ use mir.Syntax.{w16}
 use mir.ValLaws.{to_z-of_z}
 use lib.IntN.{ℤ}
 use lib.Ieee.{binary64, of_int}
-use borrow.Author.Rules.{rules}
 use Rattle.verdict.specs.Report.{accepted_of}
 use Rattle.c_math.specs.Reports.{coded_report}
 use Rattle.c_math.proofs.single.told.Goals as goal

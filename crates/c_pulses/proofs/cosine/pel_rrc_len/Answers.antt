@@ -1,7 +1,6 @@
 -- `c_pulses::cosine::pel_rrc_len` meets its contract. Assumes nothing.
 use mathlib.Core.Path.{ap, ◌∙◌}
 use Rattle.verdict.specs.Reports.{length_report}
-use borrow.Author.Rules.{rules}
 use Rattle.c_pulses.proofs.cosine.pel_rrc_len.Goals as goal
 
 pub returns : goal.returns

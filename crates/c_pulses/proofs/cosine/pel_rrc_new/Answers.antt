@@ -1,6 +1,5 @@
 -- `c_pulses::cosine::pel_rrc_new` meets its contract, a design and a refusal. Assumes nothing.
 use mathlib.Core.Path.{sym, ap, ◌∙◌}
-use borrow.Author.Rules.{rules}
 use Rattle.verdict.specs.declared.Report.{Report}
 use Rattle.fir_rrc.specs.declared.design.RrcDesigned.{RrcDesigned}
 use Rattle.verdict.specs.Reports.{outcome_report}

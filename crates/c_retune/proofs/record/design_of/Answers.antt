@@ -1,6 +1,5 @@
 -- `c_retune::record::design_of` meets its contract. Assumes nothing.
 use mathlib.Core.Path.{sym}
-use borrow.Author.Rules.{rules}
 use Rattle.c_retune.proofs.record.design_of.Goals as goal
 
 pub returns : goal.returns

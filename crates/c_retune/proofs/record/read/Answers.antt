@@ -4,7 +4,6 @@ use Rattle.ticket_codes.specs.Codes.{window_of}
 use Rattle.ticket_codes.specs.declared.Coded.TheVariants.{Known}
 use Rattle.c_retune.specs.Designs.{read_in}
 use Rattle.c_retune.specs.DesignsLaws.{read_part, read_other, read_ready}
-use borrow.Author.Rules.{rules}
 use Rattle.c_retune.proofs.record.read.Goals as goal
 
 pub returns-then-len-ne0 : goal.returns-then-len-ne0

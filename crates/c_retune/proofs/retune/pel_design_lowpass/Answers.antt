@@ -13,7 +13,6 @@ use Rattle.ticket_codes.specs.declared.Coded.{Coded}
 use Rattle.ticket_taps.specs.FitsLaws.{fits_lowpass}
 use Rattle.c_retune.specs.Designs.{lowpass_in, lowpass_for}
 use Rattle.c_retune.specs.DesignsLaws.{left_so, tunes_as}
-use borrow.Author.Rules.{rules}
 use Rattle.c_retune.proofs.retune.pel_design_lowpass.Goals as goal
 
 pub returns-then-len-ne0 : goal.returns-then-len-ne0

@@ -14,7 +14,6 @@ use Rattle.fir_retune.proofs.RetuneLaws.{beta_count}
 use Rattle.ticket_taps.specs.FitsLaws.{fits_lowpass}
 use Rattle.c_retune.specs.Designs.{read_of, then_of, beta_for}
 use Rattle.c_retune.specs.DesignsLaws.{left_so, tunes_as, read_fits, fitting_room}
-use borrow.Author.Rules.{rules}
 use Rattle.c_retune.proofs.retune.pel_design_new_beta.Goals as goal
 
 pub returns-then-design-ne3 : goal.returns-then-design-ne3

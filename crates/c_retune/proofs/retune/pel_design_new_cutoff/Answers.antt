@@ -9,7 +9,6 @@ use Rattle.fir_retune.proofs.RetuneLaws.{cutoff_count}
 use Rattle.ticket_taps.specs.FitsLaws.{fits_lowpass}
 use Rattle.c_retune.specs.Designs.{then_of, cutoff_for}
 use Rattle.c_retune.specs.DesignsLaws.{left_so, tunes_as, read_fits, fitting_room}
-use borrow.Author.Rules.{rules}
 use Rattle.c_retune.proofs.retune.pel_design_new_cutoff.Goals as goal
 
 pub written-requires : goal.written-requires

@@ -1,6 +1,5 @@
 -- `c_retune::write::left` meets its contract. Assumes nothing.
 use mathlib.Core.Path.{sym}
-use borrow.Author.Rules.{rules}
 use Rattle.c_retune.proofs.write.left.Goals as goal
 
 pub returns : goal.returns

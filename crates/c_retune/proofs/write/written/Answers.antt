@@ -4,7 +4,6 @@ use Rattle.fir_lowpass.specs.Lowpass.{outcome_of}
 use Rattle.wire.proofs.WritesLaws.{fills_room}
 use Rattle.c_retune.specs.Designs.{afterwards}
 use Rattle.c_retune.specs.DesignsLaws.{left_so}
-use borrow.Author.Rules.{rules}
 use Rattle.c_retune.proofs.write.written.Goals as goal
 
 pub returns-in-Ready : goal.returns-in-Ready

@@ -2,7 +2,6 @@
 -- writes. Assumes nothing.
 use mathlib.Core.Path.{refl, sym, ap, ◌∙◌}
 use Prim.Native.Nat.{ℕ, ◌/◌}
-use borrow.Author.Rules.{rules}
 use lib.ListN.{length}
 use Rattle.verdict.specs.Outcome.{Outcome}
 use Rattle.iir_butterworth.specs.Butterworth.{butterworth_of}

@@ -1,8 +1,7 @@
 -- `c_sections::section::pel_biquad_coefs` meets its contract: the code, the length, and then what `biquad_coefs`
 -- answers. Assumes nothing.
 use mathlib.Core.Path.{sym, ap, ◌∙◌}
-use Prim.Native.Nat.{ℕ, ◌*◌}
-use borrow.Author.Rules.{rules}
+use Prim.Native.Nat.{ℕ}
 use lib.ListN.{length}
 use Rattle.verdict.specs.Outcome.{Outcome}
 use Rattle.iir_biquad.specs.Biquad.{biquad_of}

@@ -1,8 +1,7 @@
 -- `c_sections::section::pel_preemphasis_coefs` meets its contract: the length, and then what `preemphasis_coefs`
 -- answers. Assumes nothing.
-use mathlib.Core.Path.{ap, ◌∙◌}
-use Prim.Native.Nat.{ℕ, ◌*◌}
-use borrow.Author.Rules.{rules}
+use mathlib.Core.Path.{ap}
+use Prim.Native.Nat.{ℕ}
 use lib.ListN.{length}
 use Rattle.verdict.specs.Outcome.{Outcome}
 use Rattle.iir_biquad.specs.Preemphasis.{preemphasis_of}

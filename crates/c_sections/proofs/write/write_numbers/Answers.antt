@@ -1,12 +1,11 @@
 -- `c_sections::write::write_numbers` meets its contract, numbers that are fine and a refusal. The loop's invariant: the
 -- first i numbers stand in the buffer, and the rest is as it came. Assumes nothing.
 use mathlib.Core.Path.{◌≡◌, ap, ◌∙◌}
-use Prim.Native.Nat.{ℕ, ◌-◌, ◌≤◌}
+use Prim.Native.Nat.{ℕ}
 use native.Mathlib.Omega.{arith}
-use borrow.Author.Rules.{rules}
 use lib.ListN.{length, get_or}
 use lib.Ieee.{binary64, nan, of_bits, of_int, to_bits}
-use Rattle.laws.specs.Chunks.{chunks, chunked}
+use Rattle.laws.specs.Chunks.{chunks}
 use Rattle.wire.specs.Laws.{put_none, put_more, put_length, put_all}
 use Rattle.wire.specs.Bytes.{float_bytes}
 use Rattle.verdict.specs.declared.Verdict.{Verdict}

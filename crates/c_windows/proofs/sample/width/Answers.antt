@@ -1,6 +1,5 @@
 -- `c_windows::sample::width` meets its contract. Assumes nothing.
 use mathlib.Core.Path.{sym}
-use borrow.Author.Rules.{rules}
 use Rattle.c_windows.specs.Samples.{width_of}
 use Rattle.c_windows.proofs.sample.width.Goals as goal
 

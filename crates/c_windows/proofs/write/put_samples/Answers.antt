@@ -2,7 +2,7 @@
 -- the arguments of the next two. Assumes nothing.
 use mathlib.Core.Path.{◌≡◌, refl, ap, ◌∙◌}
 use mathlib.Core.List.{List}
-use Prim.Native.Nat.{ℕ, ◌+◌, ◌*◌, ◌/◌, ◌-◌, ◌^◌, ◌%◌, ◌<◌, ◌≤◌}
+use Prim.Native.Nat.{ℕ, ◌+◌, ◌*◌, ◌/◌, ◌^◌, ◌%◌, ◌<◌, ◌≤◌}
 use native.Mathlib.Omega.{arith}
 use lib.ListN.{length}
 use lib.Ieee.{Float}
@@ -11,7 +11,7 @@ use Rattle.win_shapes.specs.Steps.{argument_of}
 use Rattle.win_sampled.specs.Shapes.{sample_at}
 use Rattle.win_sampled.specs.SampleLaws.{three_steps, place_at, value_at, curve_of}
 use Rattle.wire.specs.Bytes.{put_of}
-use Rattle.wire.specs.WrittenPrefix.{WrittenPrefix, at_first, one_more, at_end}
+use Rattle.wire.specs.WrittenPrefix.{at_first, one_more, at_end}
 use Rattle.laws.specs.Chunks.{chunks}
 use Rattle.c_windows.specs.declared.sample.Sample.{Sample}
 use Rattle.c_windows.specs.Samples.{width_of, pattern_of, sample_bytes}

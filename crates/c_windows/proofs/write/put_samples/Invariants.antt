@@ -1,21 +1,16 @@
 -- `c_windows::write::put_samples` meets its contract. The loop keeps the samples so far at the front of the buffer, and
 -- the arguments of the next two. Assumes nothing.
-use mathlib.Core.Path.{◌≡◌, refl, ap, ◌∙◌}
+use mathlib.Core.Path.{◌≡◌}
 use mathlib.Core.List.{List}
-use Prim.Native.Nat.{ℕ, ◌+◌, ◌*◌, ◌/◌, ◌-◌, ◌^◌, ◌%◌, ◌<◌, ◌≤◌}
-use native.Mathlib.Omega.{arith}
+use Prim.Native.Nat.{ℕ, ◌+◌, ◌/◌, ◌-◌, ◌≤◌}
 use lib.ListN.{length}
 use lib.Ieee.{Float}
-use Rattle.win_sampled.specs.declared.shape.Shape.{Shape}
 use Rattle.win_shapes.specs.Steps.{argument_of}
 use Rattle.win_sampled.specs.Shapes.{sample_at}
-use Rattle.win_sampled.specs.SampleLaws.{three_steps, place_at, value_at, curve_of}
-use Rattle.wire.specs.Bytes.{put_of}
-use Rattle.wire.specs.WrittenPrefix.{WrittenPrefix, at_first, one_more, at_end}
-use Rattle.laws.specs.Chunks.{chunks}
+use Rattle.win_sampled.specs.SampleLaws.{place_at, curve_of}
+use Rattle.wire.specs.WrittenPrefix.{WrittenPrefix}
 use Rattle.c_windows.specs.declared.sample.Sample.{Sample}
-use Rattle.c_windows.specs.Samples.{width_of, pattern_of, sample_bytes}
-use Rattle.c_windows.proofs.RoomLaws.{some_width, half, room, full}
+use Rattle.c_windows.specs.Samples.{width_of, pattern_of}
 use Rattle.c_windows.proofs.write.put_samples.Given as goal
 
 -- the first i samples stand at the front of the buffer

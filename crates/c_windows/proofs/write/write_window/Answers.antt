@@ -3,7 +3,6 @@
 use mathlib.Core.Path.{◌≡◌, sym, ◌∙◌}
 use Prim.Native.Nat.{◌<◌}
 use native.Mathlib.Nat.{mod-le}
-use borrow.Author.Rules.{rules}
 use lib.ListN.{length}
 use lib.Ieee.{of_int, of_bits}
 use Rattle.c_windows.specs.declared.codes.Coded.TheVariants.{Known}

@@ -1,7 +1,6 @@
 -- `fir_gaussian::gaussian_design::cached_tap` meets its contract: a raw tap that was kept is the one worked out.
 -- Assumes nothing.
 use Rattle.fir_gaussian.specs.GaussianLaws.{cached_is}
-use Rattle.std.proofs.Common.{rules}
 use Rattle.fir_gaussian.proofs.gaussian_design.cached_tap.Goals as goal
 
 pub returns-then-n-le-TAP_LIMIT : goal.returns-then-n-le-TAP_LIMIT

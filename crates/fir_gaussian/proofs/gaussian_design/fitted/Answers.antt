@@ -1,5 +1,5 @@
 -- `fir_gaussian::gaussian_design::fitted` meets its contract. Assumes nothing.
-use Rattle.std.proofs.Common.{sym, ap, ◌∙◌, rules, eq-eqb, ne_eqb}
+use Rattle.std.proofs.Common.{sym, ap, ◌∙◌, eq-eqb, ne_eqb}
 use Rattle.fir_gaussian.specs.Gaussian.{gaussian_of, fitted_of}
 use Rattle.fir_gaussian.specs.GaussianLaws.{refuses, keeps_as}
 use Rattle.fir_gaussian.specs.declared.gaussian_design.GaussianDesigned.{GaussianDesigned}

@@ -1,7 +1,6 @@
 -- `fir_gaussian::gaussian_design::prepare` meets its contract: what each test says, and then an answer at a time.
 -- Assumes nothing.
-use Rattle.std.proofs.Common.{◌≡◌, ◌+◌, ◌-◌, ◌*◌, ◌/◌, ◌^◌, ◌≤◌, true, sym, ◌∙◌, le_trans, div-le_self, arith, lit≤, le→leb, rules}
-use borrow.Author.Tests.{not-true, not-false}
+use Rattle.std.proofs.Common.{◌≡◌, ◌+◌, ◌-◌, ◌*◌, ◌/◌, ◌^◌, ◌≤◌, true, sym, ◌∙◌, le_trans, div-le_self, arith, lit≤, le→leb}
 use lib.Ieee.{of_bits, of_int, round, in_float}
 use Rattle.fir_gaussian.specs.Gaussian.{exponent, bt_taken, span_taken, samples_taken, gaussian_of}
 use Rattle.fir_gaussian.specs.GaussianLaws.{span_least, samples_most, product_most, ready, no_samples, no_span, no_bt, refuses, accepts}

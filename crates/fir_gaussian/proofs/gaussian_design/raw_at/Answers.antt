@@ -1,5 +1,5 @@
 -- `fir_gaussian::gaussian_design::raw_at` meets its contract. Assumes nothing.
-use Rattle.std.proofs.Common.{◌^◌, arith, le→leb, rules}
+use Rattle.std.proofs.Common.{◌^◌, arith, le→leb}
 use lib.Ieee.{in_float}
 use Rattle.fir_gaussian.specs.Gaussian.{raw_at}
 use Rattle.fir_gaussian.proofs.gaussian_design.raw_at.Goals as goal

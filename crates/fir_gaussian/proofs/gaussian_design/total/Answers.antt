@@ -1,6 +1,6 @@
 -- `fir_gaussian::gaussian_design::total` meets its contract. The loop's invariant: the sum of the taps so far, and the
 -- first of them kept. Assumes nothing.
-use Rattle.std.proofs.Common.{◌≡◌, ℕ, ◌+◌, ◌-◌, ◌≤◌, List, length, sym, refl, ap, ◌∙◌, subst, arith, length-set}
+use Rattle.std.proofs.Common.{◌≡◌, ℕ, ◌+◌, List, length, sym, refl, ap, ◌∙◌, subst, arith, length-set}
 use lib.Ieee.{Float, binary64, add}
 use Rattle.fir_cache.specs.Cached.{SumCached}
 use Rattle.fir_cache.specs.CachedLaws.{sum_cached_none, sum_cached_more}
@@ -15,8 +15,7 @@ loop-i-init c =
 pub loop-i-preserved : goal.loop-i-preserved
 loop-i-preserved c =
     let a = c.args in
-    let g = raw_at a.a a.sps a.mid in
-    (
+    let g = raw_at a.a a.sps a.mid in (
       omega arith,
       ap length c.keep.ensures ∙ length-set c.loop-i.raws c.loop-i.i c.raw_at-v.result ∙ c.loop-i.invariant.1,
       subst (λ (rs : List Float). SumCached g (c.loop-i.i + 1) (add binary64 c.loop-i.sum c.raw_at-v.result) rs) (sym c.keep.ensures)

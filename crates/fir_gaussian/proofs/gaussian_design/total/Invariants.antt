@@ -1,9 +1,7 @@
 -- `fir_gaussian::gaussian_design::total` meets its contract. The loop's invariant: the sum of the taps so far, and the
 -- first of them kept. Assumes nothing.
-use Rattle.std.proofs.Common.{◌≡◌, ℕ, ◌+◌, ◌-◌, ◌≤◌, List, length, sym, refl, ap, ◌∙◌, subst, arith, length-set}
-use lib.Ieee.{Float, binary64, add}
+use Rattle.std.proofs.Common.{◌≡◌, ◌-◌, ◌≤◌, length}
 use Rattle.fir_cache.specs.Cached.{SumCached}
-use Rattle.fir_cache.specs.CachedLaws.{sum_cached_none, sum_cached_more}
 use Rattle.fir_gaussian.specs.Gaussian.{raw_at}
 use Rattle.fir_gaussian.proofs.gaussian_design.total.Given as goal
 

@@ -1,5 +1,4 @@
 -- `fir_halfband::HalfbandDesign::new` meets its contract. Assumes nothing.
-use borrow.Author.Rules.{rules}
 use Rattle.fir_halfband.proofs.HalfbandDesign.new.Goals as goal
 
 pub returns : goal.returns

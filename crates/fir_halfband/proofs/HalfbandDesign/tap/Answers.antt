@@ -1,6 +1,5 @@
 -- `fir_halfband::HalfbandDesign::tap` meets its contract: no raw tap is kept. Assumes nothing.
 use native.Mathlib.Omega.{arith}
-use borrow.Author.Rules.{rules}
 use Rattle.fir_halfband.proofs.HalfbandDesign.tap.Goals as goal
 
 pub returns : goal.returns

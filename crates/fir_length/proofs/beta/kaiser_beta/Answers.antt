@@ -1,6 +1,5 @@
 -- `fir_length::beta::kaiser_beta` meets its contract, a range at a time. Assumes nothing.
 use mathlib.Core.Path.{sym}
-use borrow.Author.Rules.{rules}
 use lib.Ieee.{of_bits, of_int, round}
 use Rattle.fir_length.specs.Kaiser.{beta_of}
 use Rattle.fir_length.proofs.beta.kaiser_beta.Goals as goal

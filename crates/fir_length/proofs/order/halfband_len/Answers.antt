@@ -1,7 +1,6 @@
 -- `fir_length::order::halfband_len` meets its contract. Assumes nothing.
 use mathlib.Core.Path.{◌≡◌, sym, ap, ◌∙◌}
 use Prim.Native.Nat.{ℕ, ◌+◌, ◌%◌}
-use borrow.Author.Rules.{rules}
 use borrow.Author.Tests.{eq-eqb, ne_eqb}
 use Rattle.fir_length.specs.Kaiser.{halfband_up, lengthened, halfband_len_of}
 use Rattle.verdict.specs.declared.Length.TheVariants.{Taps}

@@ -2,8 +2,6 @@
 -- nothing.
 use mathlib.Core.Path.{◌≡◌, sym, ap, ◌∙◌}
 use mathlib.Core.Bool.{true, false}
-use borrow.Author.Rules.{rules}
-use borrow.Author.Tests.{not-true, not-false}
 use lib.Ieee.{Float, of_bits, of_int, lt}
 use lib.Ieee.Scale.{finite}
 use Rattle.laws.specs.Binary64.{◌⊗◌, ◌⊘◌, whole}

@@ -1,7 +1,6 @@
 -- `fir_length::order::odd_taps` meets its contract. Assumes nothing.
 use mathlib.Core.Path.{◌≡◌, ap, ◌∙◌}
 use Prim.Native.Nat.{◌%◌}
-use borrow.Author.Rules.{rules}
 use borrow.Author.Tests.{eq-eqb, ne_eqb}
 use lib.Ieee.{Float, to_unsigned}
 use Rattle.math_round.specs.Whole.{ceil_of}

@@ -1,7 +1,5 @@
 -- `fir_lowpass::lowpass::build` meets its contract. Assumes nothing.
 use mathlib.Core.Path.{◌≡◌, sym, ap, ◌∙◌}
-use borrow.Author.Rules.{rules}
-use borrow.Author.Tests.{not-true, not-false}
 use Rattle.fir_cache.specs.Cached.{SumCached}
 use Rattle.fir_sinc.specs.Taps.{raw_at}
 use Rattle.fir_lowpass.specs.Lowpass.{divisor_of, usable}

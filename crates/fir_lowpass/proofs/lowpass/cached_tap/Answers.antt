@@ -1,7 +1,6 @@
 -- `fir_lowpass::lowpass::cached_tap` meets its contract: a raw tap that was kept is the one worked out. Assumes
 -- nothing.
 use Rattle.fir_lowpass.specs.CachedLaws.{cached_is}
-use borrow.Author.Rules.{rules}
 use Rattle.fir_lowpass.proofs.lowpass.cached_tap.Goals as goal
 
 pub returns-then-n-le-TAP_LIMIT : goal.returns-then-n-le-TAP_LIMIT

@@ -1,5 +1,4 @@
 -- `fir_lowpass::lowpass::is_usable` meets its contract. Assumes nothing.
-use borrow.Author.Rules.{rules}
 use mathlib.Core.Path.{sym, ◌∙◌}
 use lib.Ieee.{of_bits, of_int}
 use Rattle.fir_lowpass.specs.Lowpass.{usable}

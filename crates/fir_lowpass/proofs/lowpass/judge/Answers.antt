@@ -1,8 +1,6 @@
 -- `fir_lowpass::lowpass::judge` meets its contract: what each test says, and then an answer at a time. Assumes nothing.
 use mathlib.Core.Path.{◌≡◌, sym, ◌∙◌}
 use mathlib.Core.Bool.{true}
-use borrow.Author.Rules.{rules}
-use borrow.Author.Tests.{not-true, not-false}
 use lib.Ieee.{of_bits, of_int}
 use Rattle.laws.specs.Binary64.{◌⊘◌}
 use Rattle.math_numbers.specs.Numbers.{positive}

@@ -1,6 +1,5 @@
 -- `fir_lowpass::lowpass::prepare` meets its contract: what came of the numbers, and then the design. Assumes nothing.
 use mathlib.Core.Path.{◌≡◌, sym, ap, ◌∙◌}
-use borrow.Author.Rules.{rules}
 use lib.Ieee.{Float}
 use Rattle.laws.specs.Binary64.{◌⊘◌}
 use Rattle.fir_sinc.specs.Windows.{norm_of}

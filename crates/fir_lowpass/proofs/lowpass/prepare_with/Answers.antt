@@ -1,6 +1,5 @@
 -- `fir_lowpass::lowpass::prepare_with` meets its contract: what came of the numbers, and then the design. Assumes nothing.
 use mathlib.Core.Path.{◌≡◌, sym, ◌∙◌}
-use borrow.Author.Rules.{rules}
 use Rattle.fir_lowpass.specs.Lowpass.{judgement_of}
 use Rattle.fir_lowpass.proofs.LowpassLaws.{count_most, passed, builds, refuses, prepares_as, prepares_refusal}
 use Rattle.verdict.specs.declared.Verdict.TheVariants as Verdict

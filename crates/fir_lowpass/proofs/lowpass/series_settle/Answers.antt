@@ -1,5 +1,4 @@
 -- `fir_lowpass::lowpass::series_settle` meets its contract, a window at a time. Assumes nothing.
-use borrow.Author.Rules.{rules}
 use mathlib.Core.Path.{sym, ◌∙◌}
 use Rattle.fir_lowpass.specs.Lowpass.{series_settle}
 use Rattle.fir_lowpass.proofs.lowpass.series_settle.Goals as goal

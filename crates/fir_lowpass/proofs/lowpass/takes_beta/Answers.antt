@@ -1,5 +1,4 @@
 -- `fir_lowpass::lowpass::takes_beta` meets its contract, a window at a time. Assumes nothing.
-use borrow.Author.Rules.{rules}
 use mathlib.Core.Path.{sym, ◌∙◌}
 use lib.Ieee.{of_bits, of_int}
 use Rattle.fir_lowpass.specs.Lowpass.{beta_taken}

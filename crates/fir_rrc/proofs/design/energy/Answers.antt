@@ -1,10 +1,9 @@
 -- `fir_rrc::design::energy` meets its contract. The loop's invariant: the energy of the taps so far. Assumes nothing.
-use Rattle.std.proofs.Common.{◌≡◌, ℕ, ◌-◌, ◌≤◌, ap, ◌∙◌, arith, rules}
+use Rattle.std.proofs.Common.{◌≡◌, ap, ◌∙◌, arith}
 use lib.Ieee.{Float, binary64}
 use Rattle.laws.specs.Binary64.{◌⊕◌, ◌⊗◌}
 use Rattle.laws.specs.Sums.{sum_to}
 use Rattle.laws.proofs.SumsLaws.{sum_none, sum_more}
-use Rattle.fir_rrc.specs.Rrc.{unscaled_at}
 use Rattle.fir_rrc.proofs.design.energy.Invariants.{square}
 use Rattle.fir_rrc.proofs.design.energy.Goals as goal
 
@@ -15,8 +14,7 @@ loop-k-init c =
 
 pub loop-k-preserved : goal.loop-k-preserved
 loop-k-preserved c =
-    let a = c.args in
-    (
+    let a = c.args in (
       omega arith,
       ap (λ (z : Float). z ⊕ c.unscaled_at-h.result ⊗ c.unscaled_at-h.result) c.loop-k.invariant.1
           ∙ ap (λ (z : Float). sum_to binary64 (square a.b a.sps a.n) c.loop-k.k ⊕ z ⊗ z) c.unscaled_at-h.ensures

@@ -1,9 +1,8 @@
 -- `fir_rrc::design::energy` meets its contract. The loop's invariant: the energy of the taps so far. Assumes nothing.
-use Rattle.std.proofs.Common.{◌≡◌, ℕ, ◌-◌, ◌≤◌, ap, ◌∙◌, arith, rules}
+use Rattle.std.proofs.Common.{◌≡◌, ℕ, ◌-◌, ◌≤◌}
 use lib.Ieee.{Float, binary64}
-use Rattle.laws.specs.Binary64.{◌⊕◌, ◌⊗◌}
+use Rattle.laws.specs.Binary64.{◌⊗◌}
 use Rattle.laws.specs.Sums.{sum_to}
-use Rattle.laws.proofs.SumsLaws.{sum_none, sum_more}
 use Rattle.fir_rrc.specs.Rrc.{unscaled_at}
 use Rattle.fir_rrc.proofs.design.energy.Given as goal
 

@@ -1,5 +1,5 @@
 -- `fir_rrc::design::fitted` meets its contract. Assumes nothing.
-use Rattle.std.proofs.Common.{sym, ap, ◌∙◌, rules, eq-eqb, ne_eqb}
+use Rattle.std.proofs.Common.{sym, ap, ◌∙◌, eq-eqb, ne_eqb}
 use Rattle.fir_rrc.specs.Rrc.{fitted_of}
 use Rattle.fir_rrc.specs.declared.design.RrcDesigned.{RrcDesigned}
 use Rattle.fir_rrc.proofs.design.fitted.Goals as goal

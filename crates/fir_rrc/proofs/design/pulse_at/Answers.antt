@@ -1,5 +1,5 @@
 -- `fir_rrc::design::pulse_at` meets its contract. Assumes nothing.
-use Rattle.std.proofs.Common.{Bool, sym, ap, ◌∙◌, rules}
+use Rattle.std.proofs.Common.{Bool, sym, ap, ◌∙◌}
 use lib.Ieee.{Float, of_bits, of_int, round, lt}
 use Rattle.laws.specs.Binary64.{fraction}
 use Rattle.fir_rrc.specs.Rrc.{pulse_at}

@@ -1,6 +1,5 @@
 -- `fir_rrc::design::rrc_len` meets its contract. Assumes nothing.
-use Rattle.std.proofs.Common.{◌≡◌, ◌*◌, ◌≤◌, true, sym, ◌∙◌, arith, rules}
-use borrow.Author.Tests.{not-true, not-false}
+use Rattle.std.proofs.Common.{◌≡◌, ◌*◌, ◌≤◌, true, sym, ◌∙◌, arith}
 use lib.Ieee.{of_bits, of_int}
 use Rattle.fir_rrc.specs.Rrc.{sampled, spanned}
 use Rattle.fir_rrc.specs.RrcLaws.{product_most, so_many, no_span, no_samples}

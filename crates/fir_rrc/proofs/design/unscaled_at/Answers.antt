@@ -1,5 +1,5 @@
 -- `fir_rrc::design::unscaled_at` meets its contract. Assumes nothing.
-use Rattle.std.proofs.Common.{◌-◌, ◌^◌, arith, le→leb, rules}
+use Rattle.std.proofs.Common.{◌-◌, ◌^◌, arith, le→leb}
 use lib.Ieee.{of_bits, of_int, in_float}
 use Rattle.fir_rrc.specs.Rrc.{unscaled_at}
 use Rattle.fir_rrc.proofs.design.unscaled_at.Goals as goal

@@ -1,9 +1,8 @@
 -- `fir_sinc::sum::ideal_near` meets its contract. Assumes nothing.
 use mathlib.Core.Path.{◌≡◌, sym, ap, ◌∙◌}
-use mathlib.Core.Bool.{true, false, true≢false}
+use mathlib.Core.Bool.{true≢false}
 use Prim.Native.Nat.{◌-◌}
 use native.Mathlib.Omega.{arith}
-use borrow.Author.Rules.{rules}
 use Rattle.fir_sinc.specs.Taps.{sinc, offset_at}
 use Rattle.fir_sinc.specs.Mirrored.{same_ideal}
 use Rattle.fir_sinc.proofs.sum.ideal_near.Goals as goal

@@ -1,7 +1,6 @@
 -- `fir_sinc::sum::is_mirrored_sinc` meets its contract: what is tested is what `same_sinc` asks. Assumes nothing.
 use mathlib.Core.Path.{sym}
-use mathlib.Core.Bool.{true, false, true≢false}
-use borrow.Author.Rules.{rules}
+use mathlib.Core.Bool.{true≢false}
 use lib.Ieee.{of_bits, of_int, eq}
 use Rattle.laws.specs.Binary64.{whole}
 use Rattle.laws.specs.Tests.{neither}

@@ -1,13 +1,11 @@
 -- `fir_sinc::sum::keep_rest` meets its contract: `PendingTap` goes through the loop. Assumes nothing.
-use mathlib.Core.Path.{◌≡◌, refl, ◌∙◌}
-use Prim.Native.Nat.{◌-◌, ◌≤◌}
+use mathlib.Core.Path.{refl, ◌∙◌}
 use native.Mathlib.Omega.{arith}
-use lib.ListN.{length, get_or, length-set}
+use lib.ListN.{get_or, length-set}
 use lib.Ieee.{nan}
 use Rattle.laws.specs.Binary64.{◌⊗◌}
-use Rattle.fir_sinc.specs.Taps.{ideal_at, raw_at}
 use Rattle.fir_sinc.specs.StepLaws.{raw_is}
-use Rattle.fir_sinc.specs.Pending.{PendingTap, pending_over, pending_all}
+use Rattle.fir_sinc.specs.Pending.{pending_over, pending_all}
 use Rattle.fir_sinc.proofs.sum.keep_rest.Goals as goal
 
 pub loop-i-init : goal.loop-i-init

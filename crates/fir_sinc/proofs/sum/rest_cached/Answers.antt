@@ -1,5 +1,4 @@
 -- `fir_sinc::sum::rest_cached` meets its contract. Assumes nothing.
-use borrow.Author.Rules.{rules}
 use Rattle.fir_sinc.specs.Taps.{raw_at}
 use Rattle.fir_sinc.proofs.sum.rest_cached.Goals as goal
 

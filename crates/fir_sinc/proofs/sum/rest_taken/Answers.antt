@@ -1,9 +1,7 @@
 -- `fir_sinc::sum::rest_taken` meets its contract: one tap more a turn. Assumes nothing.
 use mathlib.Core.Path.{refl}
-use Prim.Native.Nat.{◌-◌}
 use native.Mathlib.Omega.{arith}
-use Rattle.fir_sinc.specs.Taps.{raw_at}
-use Rattle.fir_cache.specs.CachedLaws.{SumPrefix, taken, all}
+use Rattle.fir_cache.specs.CachedLaws.{taken, all}
 use Rattle.fir_sinc.proofs.sum.rest_taken.Goals as goal
 
 pub loop-i-init : goal.loop-i-init

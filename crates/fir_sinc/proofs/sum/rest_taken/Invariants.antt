@@ -1,9 +1,7 @@
 -- `fir_sinc::sum::rest_taken` meets its contract: one tap more a turn. Assumes nothing.
-use mathlib.Core.Path.{refl}
 use Prim.Native.Nat.{◌-◌}
-use native.Mathlib.Omega.{arith}
 use Rattle.fir_sinc.specs.Taps.{raw_at}
-use Rattle.fir_cache.specs.CachedLaws.{SumPrefix, taken, all}
+use Rattle.fir_cache.specs.CachedLaws.{SumPrefix}
 use Rattle.fir_sinc.proofs.sum.rest_taken.Given as goal
 
 abbrev pub invariant-loop-i : goal.invariant-loop-i

@@ -1,6 +1,6 @@
 -- `fir_sinc::sum::sum_on` meets its contract: one element more a turn. Assumes nothing.
 use mathlib.Core.Path.{◌≡◌, subst}
-use Prim.Native.Nat.{ℕ, ◌-◌, ◌≤◌}
+use Prim.Native.Nat.{ℕ}
 use native.Mathlib.Omega.{arith}
 use Rattle.fir_cache.specs.Cached.{Adds}
 use Rattle.fir_cache.specs.CachedLaws.{adds_more}

@@ -1,14 +1,14 @@
 -- `fir_sinc::sum::summed` meets its contract. The invariant: the sum of the taps so far, the first of them kept, what
 -- they are without their window, and the arguments of the next two. Assumes nothing.
 use mathlib.Core.Path.{◌≡◌, refl, ap, ◌∙◌}
-use Prim.Native.Nat.{ℕ, ◌+◌, ◌-◌}
+use Prim.Native.Nat.{ℕ, ◌+◌}
 use native.Mathlib.Omega.{arith}
 use lib.Ieee.{Float}
 use Rattle.win_shapes.specs.Steps.{argument_of}
 use Rattle.fir_sinc.specs.StepLaws.{place_at, curve_of, windowed, raw_is}
-use Rattle.fir_sinc.specs.Taps.{ideal_at, raw_at}
-use Rattle.fir_cache.specs.CachedLaws.{SumPrefix, sum_cached_none}
-use Rattle.fir_sinc.specs.Pending.{Planned, Images, two_more, pending_none}
+use Rattle.fir_sinc.specs.Taps.{raw_at}
+use Rattle.fir_cache.specs.CachedLaws.{sum_cached_none}
+use Rattle.fir_sinc.specs.Pending.{two_more, pending_none}
 use Rattle.fir_sinc.proofs.sum.summed.Goals as goal
 
 pub loop-i-init : goal.loop-i-init

@@ -1,14 +1,12 @@
 -- `fir_sinc::sum::summed` meets its contract. The invariant: the sum of the taps so far, the first of them kept, what
 -- they are without their window, and the arguments of the next two. Assumes nothing.
-use mathlib.Core.Path.{◌≡◌, refl, ap, ◌∙◌}
-use Prim.Native.Nat.{ℕ, ◌+◌, ◌-◌}
-use native.Mathlib.Omega.{arith}
-use lib.Ieee.{Float}
+use mathlib.Core.Path.{◌≡◌}
+use Prim.Native.Nat.{◌+◌, ◌-◌}
 use Rattle.win_shapes.specs.Steps.{argument_of}
-use Rattle.fir_sinc.specs.StepLaws.{place_at, curve_of, windowed, raw_is}
+use Rattle.fir_sinc.specs.StepLaws.{place_at, curve_of}
 use Rattle.fir_sinc.specs.Taps.{ideal_at, raw_at}
-use Rattle.fir_cache.specs.CachedLaws.{SumPrefix, sum_cached_none}
-use Rattle.fir_sinc.specs.Pending.{Planned, Images, two_more, pending_none}
+use Rattle.fir_cache.specs.CachedLaws.{SumPrefix}
+use Rattle.fir_sinc.specs.Pending.{Planned, Images}
 use Rattle.fir_sinc.proofs.sum.summed.Given as goal
 
 abbrev pub invariant-loop-i : goal.invariant-loop-i

@@ -2,7 +2,6 @@
 use mathlib.Core.Path.{◌≡◌, refl, subst}
 use Prim.Native.Nat.{ℕ}
 use native.Mathlib.Omega.{arith}
-use borrow.Author.Rules.{rules}
 use lib.Ieee.{of_bits, of_int, binary64}
 use Rattle.fir_sinc.specs.Taps.{raw_at}
 use Rattle.fir_cache.specs.Cached.{SumCached}

@@ -1,7 +1,6 @@
 -- `fir_sinc::sum::windows_at` meets its contract. Assumes nothing.
 use mathlib.Core.Path.{◌≡◌, ap, ◌∙◌}
 use native.Mathlib.Omega.{arith}
-use borrow.Author.Rules.{rules}
 use lib.Ieee.{Float}
 use Rattle.win_shapes.specs.Steps.{argument_of}
 use Rattle.fir_sinc.specs.StepLaws.{curve_of, windowed}

@@ -1,5 +1,4 @@
 -- `fir_sinc::tap::ideal_at` meets its contract. Assumes nothing.
-use borrow.Author.Rules.{rules}
 use mathlib.Core.Path.{refl}
 use lib.Ieee.{of_bits, of_int}
 use Rattle.fir_sinc.proofs.tap.ideal_at.Goals as goal

@@ -1,5 +1,4 @@
 -- `fir_sinc::tap::raw_at` meets its contract. Assumes nothing.
-use borrow.Author.Rules.{rules}
 use mathlib.Core.Path.{refl}
 use Rattle.fir_sinc.specs.Taps.{raw_at}
 use Rattle.fir_sinc.proofs.tap.raw_at.Goals as goal

@@ -1,7 +1,6 @@
 -- `fir_sinc::tap::raw_tap` meets its contract. Assumes nothing.
 use mathlib.Core.Path.{sym}
 use lib.Ieee.{of_bits, of_int}
-use borrow.Author.Rules.{rules}
 use borrow.Author.Tests.{lt-ltb, le-ltb}
 use Rattle.fir_sinc.specs.Taps.{raw_within}
 use Rattle.fir_sinc.proofs.tap.raw_tap.Goals as goal

@@ -2,7 +2,6 @@
 use mathlib.Core.Path.{ap, ◌∙◌}
 use Rattle.win_shapes.specs.declared.curve.Curve.{Curve}
 use Rattle.win_shapes.specs.Steps.{argument_of}
-use borrow.Author.Rules.{rules}
 use Rattle.fir_sinc.proofs.window.arguments_of.Goals as goal
 
 pub returns : goal.returns

@@ -1,7 +1,6 @@
 -- `fir_sinc::window::curve_of` meets its contract, a window at a time. Assumes nothing.
 use mathlib.Core.Path.{sym}
 use Rattle.fir_sinc.specs.StepLaws.{curve_of}
-use borrow.Author.Rules.{rules}
 use Rattle.fir_sinc.proofs.window.curve_of.Goals as goal
 
 pub returns-in-Hann : goal.returns-in-Hann

@@ -2,7 +2,6 @@
 use mathlib.Core.Path.{ap, ◌∙◌}
 use Rattle.win_shapes.specs.Steps as Steps
 use Rattle.fir_sinc.specs.StepLaws.{norm_is}
-use borrow.Author.Rules.{rules}
 use Rattle.fir_sinc.proofs.window.norm.Goals as goal
 
 pub returns : goal.returns

@@ -8,7 +8,6 @@ use Rattle.win_shapes.specs.declared.curve.Curve.{Curve}
 use Rattle.win_shapes.specs.Steps as Steps
 use Rattle.fir_sinc.specs.StepLaws.{place_at}
 use native.Mathlib.Omega.{arith}
-use borrow.Author.Rules.{rules}
 use Rattle.fir_sinc.proofs.window.place_at.Goals as goal
 
 pub int_to_float-i : goal.int_to_float-i

@@ -1,7 +1,6 @@
 -- `fir_sinc::window::value_at` meets its contract. Assumes nothing.
 use mathlib.Core.Path.{sym, ◌∙◌}
 use borrow.Author.Tests.{eq-eqb, ne_eqb}
-use borrow.Author.Rules.{rules}
 use lib.Ieee.{of_bits, of_int}
 use Rattle.fir_sinc.specs.StepLaws.{value_at}
 use Rattle.fir_sinc.proofs.window.value_at.Goals as goal

@@ -1,7 +1,6 @@
 -- `fir_sinc::window::values_of` meets its contract, a window at a time. Kaiser's are worked out together, the others
 -- each by itself. Assumes nothing.
 use mathlib.Core.Path.{sym, ◌∙◌}
-use borrow.Author.Rules.{rules}
 use Rattle.fir_sinc.specs.StepLaws.{value_of}
 use Rattle.fir_sinc.proofs.window.values_of.Goals as goal
 

@@ -1,6 +1,4 @@
 -- `fir_sinc::window::window_at` meets its contract. Assumes nothing.
-use native.Mathlib.Omega.{arith}
-use borrow.Author.Rules.{rules}
 use Rattle.fir_sinc.specs.StepLaws.{in_steps}
 use Rattle.fir_sinc.proofs.window.window_at.Goals as goal
 

@@ -1,7 +1,6 @@
 -- `fir_spec::DesignSpec::lowpass` meets its contract. Assumes nothing.
 use mathlib.Core.Path.{sym, ap, ◌∙◌}
 use Rattle.fir_spec.specs.Spec.{lowpass_in, spec_lowpass_of}
-use borrow.Author.Rules.{rules}
 use Rattle.fir_spec.proofs.DesignSpec.lowpass.Goals as goal
 
 pub returns-in-Taps : goal.returns-in-Taps

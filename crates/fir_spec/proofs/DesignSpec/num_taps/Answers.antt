@@ -1,7 +1,6 @@
 -- `fir_spec::DesignSpec::num_taps` meets its contract. Assumes nothing.
 use mathlib.Core.Path.{sym, ap, ◌∙◌}
 use Rattle.fir_spec.specs.Spec.{taps_in, num_taps_of}
-use borrow.Author.Rules.{rules}
 use Rattle.fir_spec.proofs.DesignSpec.num_taps.Goals as goal
 
 pub returns-in-Taps : goal.returns-in-Taps

@@ -1,7 +1,6 @@
 -- `fmt_f32::narrow` meets its contract: the pattern is read back. Assumes nothing.
 use mathlib.Core.Path.{sym, ap, ◌∙◌}
 use Prim.Native.Nat.{ℕ}
-use borrow.Author.Rules.{rules}
 use lib.Ieee.{binary32, div, of_bits}
 use Rattle.laws.specs.Tests.{fails, ne_self, is_nan_lem}
 use Rattle.fmt_f32.specs.Single.{round_to}

@@ -4,7 +4,6 @@ use Prim.Native.Nat.{Ordering}
 use native.Mathlib.Nat.{mod-lt, div-le_self}
 use native.Mathlib.Numerals.{add-one}
 use native.Mathlib.Omega.{arith}
-use borrow.Author.Rules.{rules}
 use Rattle.laws.specs.Closest.{closest_by}
 use Rattle.fmt_f32.proofs.narrow.nearest.Goals as goal
 

@@ -1,7 +1,6 @@
 -- `fmt_f32::pattern_of` meets its contract: the test tells a NaN, and any other f64 is the one with its pattern.
 -- Assumes nothing.
 use mathlib.Core.Path.{sym, ap, subst, ◌∙◌}
-use borrow.Author.Rules.{rules}
 use lib.Dec.{T}
 use lib.Ieee.{Float, binary32, to_bits}
 use lib.Ieee.Bits.{of_bits-to_bits}

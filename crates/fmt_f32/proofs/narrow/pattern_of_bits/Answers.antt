@@ -2,7 +2,6 @@
 -- Assumes nothing.
 use Prim.Native.Nat.{ℕ, ◌+◌, ◌*◌, ◌/◌, ◌%◌, ◌^◌, ◌<◌}
 use native.Mathlib.Omega.{arith}
-use borrow.Author.Rules.{rules}
 use Rattle.fmt_f32.proofs.SizedLaws.{normal, infinite}
 use Rattle.fmt_f32.proofs.SingleLaws.{narrowed_lt, of_nan, joined}
 use Rattle.fmt_f32.proofs.narrow.pattern_of_bits.Goals as goal

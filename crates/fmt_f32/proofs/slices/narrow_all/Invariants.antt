@@ -1,12 +1,7 @@
 -- `fmt_f32::narrow_all` meets its contract. The loop's invariant: the f32s so far stand at the front. Assumes nothing.
-use mathlib.Core.Path.{refl, ap}
 use mathlib.Core.Bool.{true}
 use Prim.Native.Nat.{◌≤◌, ◌-◌}
-use native.Mathlib.Nat.{mod-one}
-use native.Mathlib.Omega.{arith}
-use lib.ListN.{set}
-use lib.Ieee.{Float}
-use Rattle.verdict.specs.ConvertsLaws.{same_count, Reached, all_taken, at_first, same_size, one_more, ends}
+use Rattle.verdict.specs.ConvertsLaws.{Reached}
 use Rattle.fmt_f32.specs.Single.{single_of}
 use Rattle.fmt_f32.proofs.slices.narrow_all.Given as goal
 

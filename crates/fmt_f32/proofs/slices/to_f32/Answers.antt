@@ -1,6 +1,5 @@
 -- `fmt_f32::to_f32` meets its contract. Assumes nothing.
 use native.Mathlib.Nat.{mod-one}
-use borrow.Author.Rules.{rules}
 use Rattle.verdict.specs.ConvertsLaws.{other_count, lengths_refused}
 use Rattle.fmt_f32.proofs.slices.to_f32.Goals as goal
 

@@ -4,7 +4,6 @@ use Prim.Native.Nat.{◌%◌}
 use native.Mathlib.Nat.{mod-one}
 use native.Mathlib.Omega.{arith}
 use borrow.Author.Tests.{eq-eqb}
-use borrow.Author.Rules.{rules}
 use lib.ListN.{length}
 use Rattle.verdict.specs.Converts.{groups_of}
 use Rattle.verdict.specs.ConvertsLaws.{part_group, lengths_refused}

@@ -4,7 +4,6 @@ use lib.Ieee.{of_bits, of_int, round, neg, to_signed}
 use lib.Ieee.Casts.{to_signed_in}
 use mir.Syntax.{w16}
 use mir.ValLaws.{to_z-of_z}
-use borrow.Author.Rules.{rules}
 use Rattle.fmt_q15.specs.Q15.{moved, q15_of}
 use Rattle.fmt_q15.specs.Q15Laws.{code_nan, code_most, code_least, code_nought, code_between}
 use Rattle.fmt_q15.proofs.q15.q15_from_f64.Goals as goal

@@ -3,7 +3,6 @@ use mathlib.Core.Path.{sym, ◌∙◌}
 use lib.Ieee.{of_bits, of_int, round, sub, add, mul, div, neg}
 use mir.Syntax.{w16}
 use mir.ValLaws.{to_z-of_z}
-use borrow.Author.Rules.{rules}
 use Rattle.fmt_q15.specs.Q15.{q15_tap_of}
 use Rattle.fmt_q15.proofs.q15.q15_tap.Goals as goal
 

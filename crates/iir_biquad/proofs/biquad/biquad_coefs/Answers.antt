@@ -2,8 +2,6 @@
 -- nothing.
 use mathlib.Core.Path.{◌≡◌, sym, ◌∙◌}
 use mathlib.Core.Bool.{true}
-use borrow.Author.Rules.{rules}
-use borrow.Author.Tests.{not-true, not-false}
 use lib.Ieee.{of_bits, of_int, div}
 use Rattle.iir_biquad.specs.Biquad.{centre_taken, quality_taken, biquad_of}
 use Rattle.iir_biquad.proofs.biquad.biquad_coefs.Goals as goal

@@ -1,5 +1,4 @@
 -- `iir_biquad::biquad::section` meets its contract, a response at a time. Assumes nothing.
-use borrow.Author.Rules.{rules}
 use lib.Ieee.{of_bits, of_int, neg}
 use Rattle.iir_biquad.specs.Biquad.{section_of}
 use Rattle.iir_biquad.proofs.biquad.section.Goals as goal

@@ -1,7 +1,6 @@
 -- `iir_biquad::biquad::takes_centre` meets its contract. Assumes nothing.
 use mathlib.Core.Path.{sym, ◌∙◌}
 use mathlib.Core.Bool.{true≢false}
-use borrow.Author.Rules.{rules}
 use lib.Ieee.{of_bits, of_int}
 use Rattle.iir_biquad.specs.Biquad.{centre_taken}
 use Rattle.iir_biquad.proofs.biquad.takes_centre.Goals as goal

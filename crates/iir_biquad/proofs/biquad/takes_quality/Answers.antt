@@ -1,6 +1,5 @@
 -- `iir_biquad::biquad::takes_quality` meets its contract. Assumes nothing.
 use mathlib.Core.Path.{sym, ◌∙◌}
-use borrow.Author.Rules.{rules}
 use lib.Ieee.{of_bits, of_int}
 use Rattle.iir_biquad.specs.Biquad.{quality_taken}
 use Rattle.iir_biquad.proofs.biquad.takes_quality.Goals as goal

@@ -2,8 +2,6 @@
 -- Assumes nothing.
 use mathlib.Core.Path.{◌≡◌, sym, ◌∙◌}
 use mathlib.Core.Bool.{true}
-use borrow.Author.Rules.{rules}
-use borrow.Author.Tests.{not-true, not-false}
 use lib.Ieee.{of_bits, of_int, round, div}
 use Rattle.iir_biquad.specs.Preemphasis.{constant_taken, rate_taken, pole_of, preemphasis_of}
 use Rattle.iir_biquad.proofs.preemphasis.preemphasis_coefs.Goals as goal

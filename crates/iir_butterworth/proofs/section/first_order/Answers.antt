@@ -1,5 +1,4 @@
 -- `iir_butterworth::section::first_order` meets its contract, a response at a time. Assumes nothing.
-use borrow.Author.Rules.{rules}
 use lib.Ieee.{of_bits, of_int}
 use Rattle.iir_butterworth.specs.Butterworth.{first_order_of}
 use Rattle.iir_butterworth.proofs.section.first_order.Goals as goal

@@ -1,5 +1,4 @@
 -- `iir_butterworth::section::quality` meets its contract. Assumes nothing.
-use borrow.Author.Rules.{rules}
 use lib.Ieee.{of_bits, of_int}
 use Rattle.iir_butterworth.specs.Butterworth.{quality_of}
 use Rattle.iir_butterworth.proofs.section.quality.Goals as goal

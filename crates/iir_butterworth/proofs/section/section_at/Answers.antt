@@ -2,7 +2,6 @@
 -- order. Assumes nothing.
 use mathlib.Core.Path.{sym}
 use Prim.Native.Nat.{◌+◌, ◌*◌}
-use borrow.Author.Rules.{rules}
 use borrow.Author.Tests.{eq-eqb, ne_eqb}
 use lib.Ieee.{of_bits, of_int}
 use Rattle.iir_butterworth.specs.Butterworth.{section_at}

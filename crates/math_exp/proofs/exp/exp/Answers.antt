@@ -1,5 +1,5 @@
 -- `math_exp::exp::exp` meets its contract. Assumes nothing.
-use Rattle.std.proofs.Common.{◌≡◌, T, sym, subst, rules}
+use Rattle.std.proofs.Common.{◌≡◌, T, sym, subst}
 use lib.Ieee.{binary64, of_bits, of_int, round, neg, div, fits}
 use Rattle.math_exp.specs.Exp.{L1, L2, doublings, rest}
 use Rattle.math_exp.specs.ExpLaws.{Below, doublings_below, below_700, exp_inside, above_0}

@@ -1,5 +1,5 @@
 -- `math_exp::exp::two_to` meets its contract: the pattern's fields are those of a power of two. Assumes nothing.
-use Rattle.std.proofs.Common.{◌≡◌, ℕ, suc, ◌+◌, ◌-◌, ◌*◌, false, not, T, ℤ, sym, ap, ◌∙◌, subst, arith, rules}
+use Rattle.std.proofs.Common.{◌≡◌, ℕ, suc, ◌+◌, ◌-◌, ◌*◌, false, not, T, ℤ, sym, ap, ◌∙◌, subst, arith}
 use lib.Ieee.{binary64, fin, nan_bits, of_bits}
 use Rattle.math_exp.specs.ExpLaws.{below_asked, below_cut, power_bits, power_no_nan}
 use Rattle.math_exp.proofs.exp.two_to.Goals as goal

@@ -1,10 +1,8 @@
 -- `math_exp::pow04::fifth_root` meets its contract. The loop's invariant: the steps that are left lead from here to
 -- where all of them lead from 4. Assumes nothing.
-use Rattle.std.proofs.Common.{◌≡◌, ◌≤◌, sym, refl, ◌∙◌, arith, rules}
-use borrow.Author.Tests.{not-true, not-false}
+use Rattle.std.proofs.Common.{sym, refl, ◌∙◌, arith, rules}
 use lib.Ieee.{of_int, of_bits}
-use Rattle.laws.specs.Binary64.{whole}
-use Rattle.math_exp.specs.Pow04.{step, steps}
+use Rattle.math_exp.specs.Pow04.{step}
 use Rattle.math_exp.proofs.Pow04Laws.{none_left, not_smaller, smaller}
 use Rattle.math_exp.proofs.pow04.fifth_root.Goals as goal
 

@@ -1,5 +1,5 @@
 -- `math_exp::pow04::pow04` meets its contract: a zero, inside the range, outside it. Assumes nothing.
-use Rattle.std.proofs.Common.{◌∙◌, rules}
+use Rattle.std.proofs.Common.{◌∙◌}
 use lib.Ieee.{of_int, of_bits, div}
 use Rattle.math_exp.proofs.Pow04Laws.{at_zero, inside, outside}
 use Rattle.math_exp.proofs.pow04.pow04.Goals as goal

@@ -1,7 +1,6 @@
 -- `math_round::floor::floor` meets its contract: both ways give the floor, and the short one asks for a small size.
 -- Assumes nothing.
 use lib.Ieee.{of_bits, neg}
-use Rattle.std.proofs.Common.{rules}
 use Rattle.math_round.specs.NearPaths.{small_of}
 use Rattle.math_round.proofs.floor.floor.Goals as goal
 

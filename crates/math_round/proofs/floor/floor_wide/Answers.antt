@@ -1,5 +1,5 @@
 -- `math_round::floor::floor_wide` meets its contract. Each path is a fact of `specs/FloorPaths.antt`. Assumes nothing.
-use Rattle.std.proofs.Common.{◌≡◌, ℕ, ◌+◌, ◌<◌, true, false, T, pos, sym, ap, ◌∙◌, subst, rules}
+use Rattle.std.proofs.Common.{◌≡◌, ℕ, ◌+◌, ◌<◌, true, false, T, pos, sym, ap, ◌∙◌, subst}
 use lib.Ieee.{Float, binary64, fits, lt, of_bits, neg, of_int, to_unsigned}
 use Rattle.math_round.proofs.FloorPaths.{pos_small, pos_large, neg_frac, neg_whole, neg_large, at_zero, asked_pos, asked_neg, next_fits}
 use Rattle.math_round.proofs.floor.floor_wide.Goals as goal

@@ -1,7 +1,6 @@
 -- `math_sqrt::digits::digit` meets its contract. The shift loses nothing, and each answer is the next step of `Going`.
 -- Assumes nothing.
 use native.Mathlib.Omega.{arith}
-use borrow.Author.Rules.{rules}
 use Rattle.math_sqrt.specs.Digits.{one, none, bit}
 use Rattle.math_sqrt.proofs.digits.digit.Goals as goal
 

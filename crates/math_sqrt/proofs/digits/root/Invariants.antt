@@ -1,9 +1,7 @@
 -- `math_sqrt::digits::root` meets its contract. The digits come from the place 2 ^ 53 down; the invariant is `Going`.
 -- Assumes nothing.
 use Prim.Native.Nat.{◌≤◌, ◌^◌}
-use native.Mathlib.Omega.{arith}
-use borrow.Author.Rules.{rules}
-use Rattle.math_sqrt.specs.Digits.{Going, start, next, done}
+use Rattle.math_sqrt.specs.Digits.{Going}
 use Rattle.math_sqrt.proofs.digits.root.Given as goal
 
 abbrev pub invariant-loop-i : goal.invariant-loop-i

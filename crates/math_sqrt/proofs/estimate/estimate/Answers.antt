@@ -1,9 +1,7 @@
 -- `math_sqrt::estimate::estimate` meets its contract. Neither pattern is that of a NaN: the one is that of a number
 -- from 1 up to 2, and a NaN is not below 2. Assumes nothing.
-use mathlib.Core.Logic.{⊎_elim}
 use Prim.Native.Nat.{◌+◌, ◌*◌, ◌^◌}
 use native.Mathlib.Omega.{arith}
-use borrow.Author.Rules.{rules}
 use Rattle.math_sqrt.proofs.NoNan.{finite_bits, below_no_nan}
 use Rattle.math_sqrt.proofs.estimate.estimate.Goals as goal
 use Rattle.math_sqrt.proofs.estimate.estimate.Goals.{else-m, then-m}

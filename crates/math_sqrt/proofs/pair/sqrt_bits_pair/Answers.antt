@@ -1,7 +1,6 @@
 -- `math_sqrt::pair::sqrt_bits_pair` meets its contract, each root as `sqrt_bits` has it. Assumes nothing.
 use Prim.Native.Nat.{◌/◌, ◌%◌, ◌^◌}
 use native.Mathlib.Omega.{arith}
-use borrow.Author.Rules.{rules}
 use Rattle.math_sqrt.specs.Scaling.{finished_evened, of_field}
 use Rattle.math_sqrt.proofs.pair.sqrt_bits_pair.Goals as goal
 

@@ -1,7 +1,6 @@
 -- `math_sqrt::rounded::rounded` meets its contract. A guess that is settled is right, and so is half of the root.
 -- Assumes nothing.
 use native.Mathlib.Omega.{arith}
-use borrow.Author.Rules.{rules}
 use Rattle.math_sqrt.specs.WholeRoot.{root_digits}
 use Rattle.math_sqrt.proofs.rounded.rounded.Goals as goal
 

@@ -1,6 +1,5 @@
 -- `math_sqrt::settled::chosen` meets its contract. Each branch is a law of `Settled`. Assumes nothing.
 use native.Mathlib.Omega.{arith}
-use borrow.Author.Rules.{rules}
 use Rattle.math_sqrt.specs.Settled.{chosen_none, chosen_same, chosen_next, chosen_last}
 use Rattle.math_sqrt.proofs.settled.chosen.Goals as goal
 

@@ -1,6 +1,5 @@
 -- `math_sqrt::settled::settled` meets its contract. What is compared differs by as much as m * 2 ^ 52 and the square of
 -- r. Assumes nothing.
-use borrow.Author.Rules.{rules}
 use Rattle.math_sqrt.specs.Settled.{unsettled, gap}
 use Rattle.math_sqrt.proofs.settled.settled.Goals as goal
 

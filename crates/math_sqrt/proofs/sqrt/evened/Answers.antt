@@ -1,7 +1,5 @@
 -- `math_sqrt::sqrt::evened` meets its contract. An odd exponent is made even by one doubling. Assumes nothing.
-use mathlib.Core.Logic.{⊎_elim}
 use native.Mathlib.Omega.{arith}
-use borrow.Author.Rules.{rules}
 use Rattle.math_sqrt.specs.Scaling.{evened_same, evened_doubled}
 use Rattle.math_sqrt.proofs.sqrt.evened.Goals as goal
 use Rattle.math_sqrt.proofs.sqrt.evened.Goals.{else-odd-eq0, then-odd-eq0}

@@ -1,5 +1,4 @@
 -- `math_sqrt::sqrt::finish` meets its contract. Assumes nothing.
-use borrow.Author.Rules.{rules}
 use Rattle.math_sqrt.specs.Scaling.{finished_evened}
 use Rattle.math_sqrt.proofs.sqrt.finish.Goals as goal
 

@@ -1,8 +1,6 @@
 -- `math_sqrt::sqrt::normal` meets its contract. A doubling and an exponent less by one stand for the same value; 52 of
 -- them are enough. Assumes nothing.
-use native.Mathlib.Omega.{arith}
-use borrow.Author.Rules.{rules}
-use Rattle.math_sqrt.specs.Scaling.{Scaling, scaling_start, scaling_low, scaling_next, scaling_done}
+use Rattle.math_sqrt.specs.Scaling.{Scaling}
 use Rattle.math_sqrt.proofs.sqrt.normal.Given as goal
 
 abbrev pub invariant-loop-a : goal.invariant-loop-a

@@ -1,7 +1,6 @@
 -- `math_sqrt::sqrt::pattern` meets its contract. The rounded root has 53 digits or is 2 ^ 53, so that the pattern fits
 -- a u64. Assumes nothing.
 use native.Mathlib.Omega.{arith}
-use borrow.Author.Rules.{rules}
 use Rattle.math_sqrt.specs.Scaling.{finished}
 use Rattle.math_sqrt.specs.Rounded.{half_most}
 use Rattle.math_sqrt.proofs.sqrt.pattern.Goals as goal

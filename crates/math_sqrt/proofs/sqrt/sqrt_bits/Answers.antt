@@ -2,7 +2,6 @@
 -- Assumes nothing.
 use Prim.Native.Nat.{◌/◌, ◌%◌, ◌^◌}
 use native.Mathlib.Omega.{arith}
-use borrow.Author.Rules.{rules}
 use Rattle.math_sqrt.specs.Scaling.{of_normal, of_field}
 use Rattle.math_sqrt.proofs.sqrt.sqrt_bits.Goals as goal
 

@@ -1,7 +1,6 @@
 -- `math_sqrt::square::square` meets its contract. The halves of the digits are few enough that no product wraps.
 -- Assumes nothing.
 use native.Mathlib.Omega.{arith}
-use borrow.Author.Rules.{rules}
 use Rattle.math_sqrt.specs.Square.{halves, squared}
 use Rattle.math_sqrt.proofs.square.square.Goals as goal
 

@@ -3,7 +3,6 @@ use mathlib.Core.Path.{◌≡◌, refl, sym, subst}
 use lib.Ieee.{of_bits, of_int, round}
 use Rattle.math_trig.specs.Laws.{Small, turns_small, quarters_small}
 use Rattle.math_trig.specs.Trig.{P1, P2, P3, P4, quarters, quadrant, rest}
-use borrow.Author.Rules.{rules}
 use Rattle.math_trig.proofs.reduce.reduce.Goals as goal
 
 pub modulo_4-q-requires : goal.modulo_4-q-requires

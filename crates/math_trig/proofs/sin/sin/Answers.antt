@@ -4,7 +4,6 @@ use mathlib.Core.Bool.{true, false}
 use Prim.Native.Nat.{ℕ}
 use native.Mathlib.Omega.{arith}
 use lib.Ieee.{Float, of_bits, of_int, div, neg, le}
-use borrow.Author.Rules.{rules}
 use Rattle.laws.specs.Tests.{holds}
 use Rattle.math_round.specs.Whole.{abs_of}
 use Rattle.math_trig.specs.Trig.{limit, sine_in, sin_of}

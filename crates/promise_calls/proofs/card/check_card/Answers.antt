@@ -1,6 +1,5 @@
 -- `promise_calls::card::check_card` meets its contract: what its export ensures, by demand 1. Assumes nothing.
 use Rattle.promise_card.specs.ReadsLaws.{checked_card}
-use borrow.Author.Rules.{rules}
 use Rattle.promise_calls.proofs.card.check_card.Goals as goal
 
 pub returns : goal.returns

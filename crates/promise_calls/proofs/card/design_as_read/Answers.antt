@@ -1,6 +1,5 @@
 -- `promise_calls::card::design_as_read` meets its contract: a ticket comes back from its numbers. Assumes nothing.
 use Rattle.promise_card.specs.TicketsLaws.{designs_read}
-use borrow.Author.Rules.{rules}
 use Rattle.promise_calls.proofs.card.design_as_read.Goals as goal
 
 pub returns : goal.returns

@@ -3,7 +3,6 @@
 use lib.ListN.{length}
 use Rattle.promise_refusals.proofs.Kept.{filled_or_kept}
 use Rattle.promise_card.specs.TicketsLaws.{bytes_listed, ticket_totals, ticket_mirrors}
-use borrow.Author.Rules.{rules}
 use Rattle.promise_calls.proofs.card.design_ticket.Goals as goal
 
 pub returns : goal.returns

@@ -6,7 +6,6 @@ use Rattle.ticket_kinds.specs.Kinds.{formed_of}
 use Rattle.c_card.specs.Tickets.{judged_for}
 use Rattle.promise_refusals.proofs.ListedLaws.{numbered, outcome_heard}
 use Rattle.promise_card.specs.TicketsLaws.{judged_listed}
-use borrow.Author.Rules.{rules}
 use Rattle.promise_calls.proofs.card.judge_ticket.Goals as goal
 
 pub returns : goal.returns

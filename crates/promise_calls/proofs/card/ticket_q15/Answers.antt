@@ -1,7 +1,6 @@
 -- `promise_calls::card::ticket_q15` meets its contract: what both exports ensure, by the chain to the filter. Assumes
 -- nothing.
 use Rattle.promise_card.specs.TicketsLaws.{ticket_filters}
-use borrow.Author.Rules.{rules}
 use Rattle.promise_calls.proofs.card.ticket_q15.Goals as goal
 
 pub returns : goal.returns

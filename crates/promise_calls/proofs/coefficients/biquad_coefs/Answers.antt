@@ -3,7 +3,6 @@ use Rattle.c_sections.specs.Codes.{response_of}
 use Rattle.promise_refusals.specs.Exports.{biquad_bytes_lem}
 use Rattle.promise_refusals.proofs.Kept.{filled_or_kept}
 use lib.ListN.{length}
-use borrow.Author.Rules.{rules}
 use Rattle.promise_calls.proofs.coefficients.biquad_coefs.Goals as goal
 
 pub returns : goal.returns

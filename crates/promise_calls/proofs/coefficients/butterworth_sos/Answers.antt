@@ -5,7 +5,6 @@ use Rattle.c_sections.specs.EvenOrders.{keeps_even}
 use Rattle.promise_refusals.specs.Exports.{butterworth_bytes_lem}
 use Rattle.promise_refusals.proofs.Kept.{filled_or_kept}
 use lib.ListN.{length}
-use borrow.Author.Rules.{rules}
 use Rattle.promise_calls.proofs.coefficients.butterworth_sos.Goals as goal
 
 pub returns : goal.returns

@@ -1,6 +1,5 @@
 -- `promise_calls::conversions::to_f32` meets its contract: what its export ensures, by demand 1. Assumes nothing.
 use Rattle.promise_refusals.proofs.Kept.{converted_or_kept}
-use borrow.Author.Rules.{rules}
 use Rattle.promise_calls.proofs.conversions.to_f32.Goals as goal
 
 pub returns : goal.returns

@@ -2,7 +2,6 @@
 -- that are built in are taken. Assumes nothing.
 use Rattle.promise_refusals.proofs.Kept.{loaded_or_none}
 use Rattle.promise_cosines.specs.LoadedLaws.{takes_built_ins}
-use borrow.Author.Rules.{rules}
 use Rattle.promise_calls.proofs.cosines.load_cosines.Goals as goal
 
 pub returns : goal.returns

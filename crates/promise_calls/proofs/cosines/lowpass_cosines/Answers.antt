@@ -7,7 +7,6 @@ use Rattle.promise_refusals.specs.Exports.{lowpass_bytes_lem}
 use Rattle.promise_refusals.proofs.Kept.{filled_or_kept}
 use Rattle.promise_totals.proofs.WrittenLaws.{lowpass_written}
 use Rattle.promise_cosines.specs.LoadedLaws.{writes_built_ins}
-use borrow.Author.Rules.{rules}
 use Rattle.promise_calls.proofs.cosines.lowpass_cosines.Goals as goal
 
 pub returns : goal.returns

@@ -9,7 +9,6 @@ use Rattle.ticket_codes.specs.declared.Coded.TheVariants.{Known}
 use Rattle.c_lowpass.specs.Lowpass.{lowpass_coded}
 use Rattle.promise_refusals.specs.Exports.{lowpass_coded_lem}
 use Rattle.promise_refusals.proofs.ListedLaws.{numbered, outcome_heard}
-use borrow.Author.Rules.{rules}
 use Rattle.promise_calls.proofs.cosines.lowpass_cosines_new.Goals as goal
 
 pub returns : goal.returns

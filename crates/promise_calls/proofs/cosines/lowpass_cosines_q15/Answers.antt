@@ -4,7 +4,6 @@
 use Rattle.fir_sinc.specs.declared.window.Window.TheVariants.{Cosines}
 use Rattle.ticket_codes.specs.declared.Coded.TheVariants.{Known}
 use Rattle.promise_totals.proofs.FilterLaws.{lowpass_filter}
-use borrow.Author.Rules.{rules}
 use Rattle.promise_calls.proofs.cosines.lowpass_cosines_q15.Goals as goal
 
 pub returns : goal.returns

@@ -3,7 +3,6 @@ use Rattle.promise_refusals.specs.Exports.{channelizer_bytes_lem}
 use Rattle.promise_refusals.proofs.Kept.{filled_or_kept}
 use Rattle.promise_totals.proofs.WrittenLaws.{channelizer_written}
 use lib.ListN.{length}
-use borrow.Author.Rules.{rules}
 use Rattle.promise_calls.proofs.designs.channelizer_prototype.Goals as goal
 
 pub returns : goal.returns

@@ -6,7 +6,6 @@ use Rattle.promise_settling.specs.TakenLaws.{halfband_taken}
 use Rattle.promise_totals.proofs.MirrorLaws.{halfband_mirrored, halfband_zeros}
 use Rattle.promise_totals.proofs.WrittenLaws.{halfband_written}
 use lib.ListN.{length}
-use borrow.Author.Rules.{rules}
 use Rattle.promise_calls.proofs.designs.halfband.Goals as goal
 
 pub returns : goal.returns

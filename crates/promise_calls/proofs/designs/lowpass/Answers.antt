@@ -6,7 +6,6 @@ use Rattle.promise_refusals.proofs.Kept.{filled_or_kept}
 use Rattle.promise_settling.specs.TakenLaws.{lowpass_taken}
 use Rattle.promise_totals.proofs.WrittenLaws.{lowpass_written}
 use lib.ListN.{length}
-use borrow.Author.Rules.{rules}
 use Rattle.promise_calls.proofs.designs.lowpass.Goals as goal
 
 pub returns : goal.returns

@@ -2,7 +2,6 @@
 use Rattle.promise_refusals.specs.Exports.{rrc_bytes_lem}
 use Rattle.promise_refusals.proofs.Kept.{filled_or_kept}
 use lib.ListN.{length}
-use borrow.Author.Rules.{rules}
 use Rattle.promise_calls.proofs.designs.rrc.Goals as goal
 
 pub returns : goal.returns

@@ -4,7 +4,6 @@ use Rattle.promise_refusals.specs.Exports.{spec_bytes_lem}
 use Rattle.promise_refusals.proofs.Kept.{filled_or_kept}
 use Rattle.promise_totals.proofs.WrittenLaws.{spec_written}
 use lib.ListN.{length}
-use borrow.Author.Rules.{rules}
 use Rattle.promise_calls.proofs.designs.spec_design.Goals as goal
 
 pub returns : goal.returns

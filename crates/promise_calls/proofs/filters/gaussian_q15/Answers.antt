@@ -1,6 +1,5 @@
 -- `promise_calls::filters::gaussian_q15` meets its contract: what both exports ensure, by the chain to the filter. Assumes nothing.
 use Rattle.promise_totals.proofs.FilterLaws.{gaussian_filter}
-use borrow.Author.Rules.{rules}
 use Rattle.promise_calls.proofs.filters.gaussian_q15.Goals as goal
 
 pub returns : goal.returns

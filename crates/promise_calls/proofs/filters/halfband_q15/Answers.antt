@@ -1,6 +1,5 @@
 -- `promise_calls::filters::halfband_q15` meets its contract: what both exports ensure, by the chain to the filter. Assumes nothing.
 use Rattle.promise_totals.proofs.FilterLaws.{halfband_filter}
-use borrow.Author.Rules.{rules}
 use Rattle.promise_calls.proofs.filters.halfband_q15.Goals as goal
 
 pub returns : goal.returns

@@ -1,7 +1,6 @@
 -- `promise_calls::filters::lowpass_q15` meets its contract: what both exports ensure, by the chain to the filter. Assumes nothing.
 use Rattle.ticket_codes.specs.Codes.{window_of}
 use Rattle.promise_totals.proofs.FilterLaws.{lowpass_filter}
-use borrow.Author.Rules.{rules}
 use Rattle.promise_calls.proofs.filters.lowpass_q15.Goals as goal
 
 pub returns : goal.returns

@@ -1,7 +1,6 @@
 -- `promise_calls::filters::spec_q15` meets its contract: what both exports ensure, by the chain to the filter. Assumes nothing.
 use Rattle.c_lowpass.specs.Spec.{spec_of}
 use Rattle.promise_totals.proofs.FilterLaws.{spec_filter}
-use borrow.Author.Rules.{rules}
 use Rattle.promise_calls.proofs.filters.spec_q15.Goals as goal
 
 pub returns : goal.returns

@@ -7,7 +7,6 @@ use Rattle.promise_refusals.proofs.ListedLaws.{numbered, outcome_heard}
 use Rattle.verdict.specs.Outcome.{answered}
 use Rattle.verdict.specs.declared.Report.{Report}
 use mathlib.Core.Path.{ap, ◌∙◌}
-use borrow.Author.Rules.{rules}
 use Rattle.promise_calls.proofs.judgements.lowpass_new.Goals as goal
 
 pub returns : goal.returns

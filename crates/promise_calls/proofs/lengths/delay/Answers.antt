@@ -7,7 +7,6 @@ use Rattle.promise_refusals.proofs.ListedLaws.{numbered, delay_heard}
 use Rattle.promise_refusals.specs.Verdicts.{of_delay}
 use Rattle.verdict.specs.declared.Report.{Report}
 use mathlib.Core.Path.{sym, ap, ◌∙◌, subst}
-use borrow.Author.Rules.{rules}
 use Rattle.promise_calls.proofs.lengths.delay.Goals as goal
 
 pub returns : goal.returns

@@ -5,7 +5,6 @@ use Rattle.promise_refusals.proofs.ListedLaws.{numbered, order_heard}
 use Rattle.promise_refusals.specs.Verdicts.{of_order}
 use Rattle.verdict.specs.declared.Report.{Report}
 use mathlib.Core.Path.{ap, ◌∙◌}
-use borrow.Author.Rules.{rules}
 use Rattle.promise_calls.proofs.lengths.kaiserord.Goals as goal
 
 pub returns : goal.returns

@@ -5,7 +5,6 @@ use Rattle.promise_refusals.proofs.ListedLaws.{numbered, coded_heard}
 use Rattle.promise_refusals.specs.Verdicts.{of_coded}
 use Rattle.verdict.specs.declared.Report.{Report}
 use mathlib.Core.Path.{ap, ◌∙◌}
-use borrow.Author.Rules.{rules}
 use Rattle.promise_calls.proofs.lengths.q14_from_f64.Goals as goal
 
 pub returns : goal.returns

@@ -6,7 +6,6 @@ use Rattle.promise_refusals.proofs.ListedLaws.{numbered, length_heard}
 use Rattle.promise_refusals.specs.Verdicts.{of_length}
 use Rattle.verdict.specs.declared.Report.{Report}
 use mathlib.Core.Path.{ap, ◌∙◌}
-use borrow.Author.Rules.{rules}
 use Rattle.promise_calls.proofs.lengths.spec_num_taps.Goals as goal
 
 pub returns : goal.returns

@@ -5,7 +5,6 @@ use Rattle.promise_refusals.specs.Exports.{window_bytes_lem}
 use Rattle.promise_refusals.proofs.Kept.{filled_or_kept}
 use Rattle.win_sampled.specs.declared.shape.Shape.TheVariants.{BlackmanHarris}
 use lib.ListN.{length}
-use borrow.Author.Rules.{rules}
 use Rattle.promise_calls.proofs.samples.blackman_harris_f32.Goals as goal
 
 pub returns : goal.returns

@@ -9,7 +9,6 @@ use Rattle.promise_settling.specs.SamplesLaws.{finite_samples}
 use Rattle.promise_settling.specs.TakenLaws.{window_taken}
 use Rattle.win_sampled.specs.declared.shape.Shape.TheVariants.{Kaiser}
 use lib.ListN.{length}
-use borrow.Author.Rules.{rules}
 use Rattle.promise_calls.proofs.samples.kaiser_q15.Goals as goal
 
 pub returns : goal.returns

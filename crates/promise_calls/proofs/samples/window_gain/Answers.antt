@@ -4,7 +4,6 @@ use Rattle.c_gain.specs.declared.level.GainReport.{GainReport}
 use Rattle.promise_refusals.specs.Judgements.{samples_listed}
 use Rattle.promise_refusals.proofs.ListedLaws.{numbered, gain_heard}
 use Rattle.promise_refusals.specs.Verdicts.{of_samples}
-use borrow.Author.Rules.{rules}
 use Rattle.promise_calls.proofs.samples.window_gain.Goals as goal
 
 pub returns : goal.returns

@@ -1,6 +1,5 @@
 -- `promise_calls::slices::halfband_slice` meets its contract: what the function ensures, by demand 3. Assumes nothing.
 use Rattle.promise_totals.proofs.SlicesLaws.{halfband_filled, halfband_mirrors}
-use borrow.Author.Rules.{rules}
 use Rattle.promise_calls.proofs.slices.halfband_slice.Goals as goal
 
 pub returns : goal.returns

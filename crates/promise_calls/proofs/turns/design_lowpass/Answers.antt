@@ -7,7 +7,6 @@ use Rattle.promise_refusals.proofs.Kept.{filled_or_kept}
 use Rattle.promise_retune.specs.HistoryLaws.{as_lowpass, begins}
 use Rattle.promise_totals.proofs.WrittenLaws.{design_lowpass_written}
 use lib.ListN.{length}
-use borrow.Author.Rules.{rules}
 use Rattle.promise_calls.proofs.turns.design_lowpass.Goals as goal
 
 pub returns : goal.returns

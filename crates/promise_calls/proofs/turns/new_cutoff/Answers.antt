@@ -8,7 +8,6 @@ use Rattle.promise_retune.specs.Histories.{call_of}
 use Rattle.promise_retune.specs.HistoryLaws.{advances, leaves_record}
 use Rattle.promise_totals.proofs.WrittenLaws.{design_cutoff_written}
 use lib.ListN.{length}
-use borrow.Author.Rules.{rules}
 use Rattle.promise_calls.proofs.turns.new_cutoff.Goals as goal
 
 pub returns : goal.returns

@@ -3,7 +3,6 @@ use Rattle.promise_written.specs.Fits.{numbers_fit}
 use Rattle.promise_written.specs.Written.{numbers}
 use Rattle.promise_written.specs.WrittenLaws.{reads_back, read_as}
 use native.Mathlib.Omega.{arith}
-use borrow.Author.Rules.{rules}
 use Rattle.promise_calls.proofs.written.read_as_written.Goals as goal
 
 pub returns : goal.returns

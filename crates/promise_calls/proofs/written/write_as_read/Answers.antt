@@ -2,7 +2,6 @@
 use Rattle.wire.specs.Held.{below_all}
 use Rattle.promise_written.specs.WrittenLaws.{writes_back}
 use native.Mathlib.Omega.{arith}
-use borrow.Author.Rules.{rules}
 use Rattle.promise_calls.proofs.written.write_as_read.Goals as goal
 
 pub returns : goal.returns

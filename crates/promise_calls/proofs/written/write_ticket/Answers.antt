@@ -1,6 +1,5 @@
 -- `promise_calls::written::write_ticket` meets its contract: what its export ensures, by demand 1. Assumes nothing.
 use Rattle.promise_written.specs.WrittenLaws.{written_or_kept}
-use borrow.Author.Rules.{rules}
 use Rattle.promise_calls.proofs.written.write_ticket.Goals as goal
 
 pub returns : goal.returns

@@ -8,7 +8,6 @@ use Rattle.fir_lowpass.specs.Lowpass.{lowpass_of, outcome_of}
 use Rattle.fir_lowpass.proofs.LowpassLaws.{lowpass_count}
 use Rattle.wire.proofs.WritesLaws.{room, leaves_part, writes_whole}
 use Rattle.ticket_taps.specs.FitsLaws.{fits_lowpass}
-use borrow.Author.Rules.{rules}
 use Rattle.ticket_bytes.proofs.lowpasses.put_lowpass.Goals as goal
 
 pub returns-then-len-ne0 : goal.returns-then-len-ne0

@@ -10,7 +10,6 @@ use Rattle.fir_channelizer.specs.Channelizer.{channelizer_lowpass_of, fitted_of}
 use Rattle.fir_channelizer.specs.ChannelizerLaws.{channelizer_count}
 use Rattle.wire.proofs.WritesLaws.{room, leaves_part, writes_whole}
 use Rattle.ticket_taps.specs.FitsLaws.{fits_lowpass}
-use borrow.Author.Rules.{rules}
 use Rattle.ticket_bytes.proofs.lowpasses.put_prototype.Goals as goal
 
 pub returns-then-len-ne0 : goal.returns-then-len-ne0

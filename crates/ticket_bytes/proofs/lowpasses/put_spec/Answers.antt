@@ -9,7 +9,6 @@ use Rattle.fir_spec.specs.Spec.{spec_design_of}
 use Rattle.fir_spec.specs.SpecLaws.{spec_count}
 use Rattle.wire.proofs.WritesLaws.{room, leaves_part, writes_whole}
 use Rattle.ticket_taps.specs.FitsLaws.{fits_lowpass}
-use borrow.Author.Rules.{rules}
 use Rattle.ticket_bytes.proofs.lowpasses.put_spec.Goals as goal
 
 pub returns-then-len-ne0 : goal.returns-then-len-ne0

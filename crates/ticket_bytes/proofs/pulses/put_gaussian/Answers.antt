@@ -8,7 +8,6 @@ use Rattle.fir_gaussian.specs.declared.gaussian_design.GaussianDesigned.{Gaussia
 use Rattle.fir_gaussian.specs.GaussianLaws.{gaussian_count}
 use Rattle.wire.proofs.WritesLaws.{room, leaves_part, writes_whole}
 use Rattle.ticket_bytes.proofs.FitsLaws.{fits_gaussian}
-use borrow.Author.Rules.{rules}
 use Rattle.ticket_bytes.proofs.pulses.put_gaussian.Goals as goal
 
 pub returns-then-len-ne0 : goal.returns-then-len-ne0

@@ -8,7 +8,6 @@ use Rattle.fir_halfband.specs.Halfband.{halfband_of, outcome_of}
 use Rattle.fir_halfband.specs.HalfbandLaws.{halfband_count}
 use Rattle.wire.proofs.WritesLaws.{room, leaves_part, writes_whole}
 use Rattle.ticket_bytes.proofs.FitsLaws.{fits_halfband}
-use borrow.Author.Rules.{rules}
 use Rattle.ticket_bytes.proofs.pulses.put_halfband.Goals as goal
 
 pub returns-then-len-ne0 : goal.returns-then-len-ne0

@@ -8,7 +8,6 @@ use Rattle.fir_rrc.specs.declared.design.RrcDesigned.{RrcDesigned}
 use Rattle.fir_rrc.specs.RrcLaws.{rrc_count}
 use Rattle.wire.proofs.WritesLaws.{room, leaves_part, writes_whole}
 use Rattle.wire.specs.Writes.{Room}
-use borrow.Author.Rules.{rules}
 use Rattle.ticket_bytes.proofs.pulses.put_rrc.Goals as goal
 
 pub returns-then-len-ne0 : goal.returns-then-len-ne0

@@ -2,7 +2,6 @@
 use mathlib.Core.Path.{ap}
 use Rattle.ticket_bytes.specs.Sources.{of_halfband}
 use Rattle.wire.proofs.WritesLaws.{leaves, fills_room}
-use borrow.Author.Rules.{rules}
 use Rattle.ticket_bytes.proofs.write.write_halfband.Goals as goal
 
 pub returns-in-Ready : goal.returns-in-Ready

@@ -1,13 +1,11 @@
 -- `ticket_card::card::check` meets its contract, a record at a time. Assumes nothing.
 use mathlib.Core.Path.{refl, sym, ap, ◌∙◌}
-use Prim.Native.Nat.{◌-◌}
 use native.Mathlib.Omega.{arith}
 use borrow.Author.Rules.{part_to_end}
-use lib.ListN.{length, drop}
+use lib.ListN.{drop}
 use Rattle.ticket_card.specs.Card.{read_of}
 use Rattle.ticket_card.specs.Readings.{read_some}
-use Rattle.ticket_card.specs.CardsLaws.{Reached, at_first, one_more, broken, whole}
-use borrow.Author.Rules.{rules}
+use Rattle.ticket_card.specs.CardsLaws.{at_first, one_more, broken, whole}
 use Rattle.ticket_card.proofs.card.check.Goals as goal
 
 pub loop-at-init : goal.loop-at-init

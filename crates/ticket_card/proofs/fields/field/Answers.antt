@@ -2,7 +2,6 @@
 use mathlib.Core.Path.{◌∙◌}
 use Rattle.wire.specs.Read.{eight}
 use native.Mathlib.Omega.{arith}
-use borrow.Author.Rules.{rules}
 use Rattle.ticket_card.proofs.fields.field.Goals as goal
 
 pub returns : goal.returns

@@ -2,7 +2,6 @@
 use mathlib.Core.Path.{◌∙◌}
 use Rattle.ticket_card.specs.Places.{kind_place}
 use native.Mathlib.Omega.{arith}
-use borrow.Author.Rules.{rules}
 use Rattle.ticket_card.proofs.fields.kind_in.Goals as goal
 
 pub returns : goal.returns

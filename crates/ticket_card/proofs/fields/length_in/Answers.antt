@@ -2,7 +2,6 @@
 use mathlib.Core.Path.{◌∙◌}
 use Rattle.wire.specs.Read.{four}
 use native.Mathlib.Omega.{arith}
-use borrow.Author.Rules.{rules}
 use Rattle.ticket_card.proofs.fields.length_in.Goals as goal
 
 pub returns : goal.returns

@@ -1,6 +1,5 @@
 -- `ticket_card::fields::numbers_in` meets its contract, by how many fields there are. Assumes nothing.
 use native.Mathlib.Omega.{arith}
-use borrow.Author.Rules.{rules}
 use Rattle.ticket_card.specs.Places.{present, absent, numbers_are}
 use Rattle.ticket_card.proofs.fields.numbers_in.Goals as goal
 

@@ -7,7 +7,6 @@ use Rattle.ticket_kinds.specs.Kinds.{formed_of}
 use Rattle.ticket_kinds.specs.KindsLaws.{counts, formed_numbers}
 use Rattle.ticket_card.specs.Card.{fields_in, record_length}
 use Rattle.ticket_card.specs.Orders.{read_as, too_short, unknown, wrong_length, cut_off, there}
-use borrow.Author.Rules.{rules}
 use Rattle.ticket_card.proofs.reader.read.Goals as goal
 
 pub returns-then-len-lt6 : goal.returns-then-len-lt6

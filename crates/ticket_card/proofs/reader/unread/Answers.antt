@@ -6,7 +6,6 @@ use Rattle.ticket_card.specs.Card.{read_of, taken_of}
 use lib.ListN.{drop}
 use borrow.Author.Rules.{part_to_end}
 use Rattle.ticket_card.specs.Readings.{read_there}
-use borrow.Author.Rules.{rules}
 use Rattle.ticket_card.proofs.reader.unread.Goals as goal
 
 pub slice_bounds-result-count : goal.slice_bounds-result-count

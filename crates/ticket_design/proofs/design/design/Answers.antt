@@ -1,6 +1,5 @@
 -- `ticket_design::design::design` meets its contract, a kind at a time. Assumes nothing.
 use Rattle.ticket_design.specs.Design.{ticket_outcome}
-use borrow.Author.Rules.{rules}
 use Rattle.ticket_design.proofs.design.design.Goals as goal
 
 pub returns-in-Lowpass : goal.returns-in-Lowpass

@@ -1,6 +1,5 @@
 -- `ticket_design::design::design_channelizer` meets its contract. Assumes nothing.
 use Rattle.ticket_design.specs.Design.{ticket_outcome}
-use borrow.Author.Rules.{rules}
 use Rattle.ticket_design.proofs.design.design_channelizer.Goals as goal
 
 pub returns : goal.returns

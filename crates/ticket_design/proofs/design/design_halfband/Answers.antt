@@ -8,7 +8,6 @@ use Rattle.wire.proofs.WritesLaws.{leaves, writes_same}
 use Rattle.fir_halfband.specs.Halfband.{halfband_of, outcome_of}
 use Rattle.ticket_design.specs.Design.{float, ticket_outcome}
 use Rattle.ticket_design.specs.DesignLaws.{other_count, same_count}
-use borrow.Author.Rules.{rules}
 use Rattle.ticket_design.proofs.design.design_halfband.Goals as goal
 
 pub returns-then-other_count : goal.returns-then-other_count

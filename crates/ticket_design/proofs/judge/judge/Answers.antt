@@ -1,6 +1,5 @@
 -- `ticket_design::judge::judge` meets its contract, a kind at a time. Assumes nothing.
 use Rattle.ticket_design.specs.OwnLaws.{judged_lowpass, judged_spec, judged_halfband, judged_gaussian, judged_rrc, judged_channelizer}
-use borrow.Author.Rules.{rules}
 use Rattle.ticket_design.proofs.judge.judge.Goals as goal
 
 pub returns-in-Lowpass : goal.returns-in-Lowpass

@@ -1,5 +1,4 @@
 -- `ticket_design::judge::of_halfband` meets its contract, a design and a refusal. Assumes nothing.
-use borrow.Author.Rules.{rules}
 use Rattle.ticket_design.proofs.judge.of_halfband.Goals as goal
 
 pub returns-in-Ready : goal.returns-in-Ready

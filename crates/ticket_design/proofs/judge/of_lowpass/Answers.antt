@@ -1,5 +1,4 @@
 -- `ticket_design::judge::of_lowpass` meets its contract, a design and a refusal. Assumes nothing.
-use borrow.Author.Rules.{rules}
 use Rattle.ticket_design.proofs.judge.of_lowpass.Goals as goal
 
 pub returns-in-Ready : goal.returns-in-Ready

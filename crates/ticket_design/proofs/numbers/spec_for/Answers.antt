@@ -1,5 +1,4 @@
 -- `ticket_design::numbers::spec_for` meets its contract. Assumes nothing.
-use borrow.Author.Rules.{rules}
 use Rattle.ticket_design.proofs.numbers.spec_for.Goals as goal
 
 pub returns : goal.returns

@@ -1,5 +1,4 @@
 -- `ticket_design::numbers::window_for` meets its contract, a window at a time. Assumes nothing.
-use borrow.Author.Rules.{rules}
 use Rattle.ticket_design.proofs.numbers.window_for.Goals as goal
 
 pub returns-in-Kaiser : goal.returns-in-Kaiser

@@ -1,5 +1,4 @@
 -- `ticket_kinds::numbers::numbers_of` meets its contract, a kind at a time. Assumes nothing.
-use borrow.Author.Rules.{rules}
 use Rattle.ticket_kinds.proofs.numbers.numbers_of.Goals as goal
 
 pub returns-in-Lowpass : goal.returns-in-Lowpass

@@ -1,6 +1,5 @@
 -- `ticket_kinds::numbers::ticket_of` meets its contract, a kind at a time. Assumes nothing.
 use native.Mathlib.Omega.{arith}
-use borrow.Author.Rules.{rules}
 use borrow.Author.Tests.{lt-leb, le-leb}
 use Rattle.ticket_kinds.specs.Kinds.{field_count, window_taken, ticket_of, formed_of}
 use Rattle.ticket_kinds.specs.KindsLaws.{no_kind}

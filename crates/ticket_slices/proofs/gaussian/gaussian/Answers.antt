@@ -1,11 +1,10 @@
 -- `ticket_slices::gaussian::gaussian` meets its contract. The loop's invariant: the taps so far stand at the front.
 -- Assumes nothing.
 use mathlib.Core.Path.{◌≡◌, refl, sym, ap, ◌∙◌}
-use Prim.Native.Nat.{◌≤◌, ◌-◌}
 use native.Mathlib.Omega.{arith}
-use borrow.Author.Rules.{rules, scaled_Fits}
+use borrow.Author.Rules.{scaled_Fits}
 use lib.ListN.{length}
-use Rattle.laws.specs.Filled.{filled, fill_none, fill_more, fill_all, length_filled}
+use Rattle.laws.specs.Filled.{fill_none, fill_more, fill_all, length_filled}
 use Rattle.verdict.specs.OutcomeLaws.{fills, leaves}
 use Rattle.fir_gaussian.specs.Gaussian.{tap_of, outcome_of}
 use Rattle.ticket_slices.proofs.gaussian.gaussian.Goals as goal

@@ -1,13 +1,10 @@
 -- `ticket_slices::gaussian::gaussian` meets its contract. The loop's invariant: the taps so far stand at the front.
 -- Assumes nothing.
-use mathlib.Core.Path.{◌≡◌, refl, sym, ap, ◌∙◌}
+use mathlib.Core.Path.{◌≡◌}
 use Prim.Native.Nat.{◌≤◌, ◌-◌}
-use native.Mathlib.Omega.{arith}
-use borrow.Author.Rules.{rules, scaled_Fits}
 use lib.ListN.{length}
-use Rattle.laws.specs.Filled.{filled, fill_none, fill_more, fill_all, length_filled}
-use Rattle.verdict.specs.OutcomeLaws.{fills, leaves}
-use Rattle.fir_gaussian.specs.Gaussian.{tap_of, outcome_of}
+use Rattle.laws.specs.Filled.{filled}
+use Rattle.fir_gaussian.specs.Gaussian.{tap_of}
 use Rattle.ticket_slices.proofs.gaussian.gaussian.Given as goal
 
 abbrev pub invariant-loop-i : goal.invariant-loop-i

@@ -1,11 +1,10 @@
 -- `ticket_slices::half_band::halfband_taps` meets its contract: it fills a tap at a time, which agrees with the
 -- definition's buffer. The loop's invariant: the taps so far stand at the front. Assumes nothing.
 use mathlib.Core.Path.{◌≡◌, sym, ap, ◌∙◌}
-use Prim.Native.Nat.{◌≤◌, ◌-◌}
 use native.Mathlib.Omega.{arith}
-use borrow.Author.Rules.{rules, scaled_Fits}
+use borrow.Author.Rules.{scaled_Fits}
 use lib.ListN.{length}
-use Rattle.laws.specs.Filled.{filled, fill_none, fill_more, fill_all, length_filled}
+use Rattle.laws.specs.Filled.{fill_none, fill_more, fill_all, length_filled}
 use Rattle.fir_halfband.specs.Halfband.{tap_of}
 use Rattle.ticket_slices.specs.Agree.{fills, leaves}
 use Rattle.ticket_slices.proofs.half_band.halfband_taps.Goals as goal

@@ -1,11 +1,10 @@
 -- `ticket_slices::low_pass::fill` meets its contract. The loop's invariant: the taps so far stand at the front. Assumes
 -- nothing.
 use mathlib.Core.Path.{◌≡◌, ap, ◌∙◌}
-use Prim.Native.Nat.{◌≤◌, ◌-◌}
 use native.Mathlib.Omega.{arith}
 use borrow.Author.Rules.{scaled_Fits}
 use lib.ListN.{length}
-use Rattle.laws.specs.Filled.{filled, fill_none, fill_more, fill_all, length_filled}
+use Rattle.laws.specs.Filled.{fill_none, fill_more, fill_all, length_filled}
 use Rattle.fir_lowpass.specs.Lowpass.{tap_of, taps_of}
 use Rattle.ticket_slices.proofs.low_pass.fill.Goals as goal
 

@@ -1,6 +1,5 @@
 -- `ticket_slices::low_pass::finish` meets its contract: a design fills the buffer, a refusal leaves it. Assumes nothing.
 use Rattle.fir_lowpass.proofs.LowpassLaws.{fills, leaves}
-use borrow.Author.Rules.{rules}
 use Rattle.ticket_slices.proofs.low_pass.finish.Goals as goal
 
 pub returns-in-Ready : goal.returns-in-Ready

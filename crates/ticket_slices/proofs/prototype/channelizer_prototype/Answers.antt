@@ -1,5 +1,4 @@
 -- `ticket_slices::prototype::channelizer_prototype` meets its contract. Assumes nothing.
-use borrow.Author.Rules.{rules}
 use Rattle.fir_lowpass.proofs.LowpassLaws.{fills_as}
 use Rattle.ticket_slices.proofs.prototype.channelizer_prototype.Goals as goal
 

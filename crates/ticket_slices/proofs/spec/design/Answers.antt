@@ -1,7 +1,6 @@
 -- `ticket_slices::spec::design` meets its contract. Assumes nothing.
 use mathlib.Core.Path.{refl}
 use Rattle.fir_lowpass.proofs.LowpassLaws.{fills_as}
-use borrow.Author.Rules.{rules}
 use Rattle.ticket_slices.proofs.spec.design.Goals as goal
 
 pub slice_bounds-spec_prepare-end : goal.slice_bounds-spec_prepare-end

@@ -1,8 +1,8 @@
 -- `win_sampled::fill::fill_f32` meets its contract; FillLaws has what it shares with the fill of Q15 numbers. Assumes
 -- nothing.
-use Rattle.std.proofs.Common.{◌-◌, length, ap, ◌∙◌, arith, rules}
+use Rattle.std.proofs.Common.{◌-◌, length}
 use Rattle.fmt_f32.specs.Single.{single_of}
-use Rattle.win_sampled.proofs.FillLaws.{Filling, fill_start, same_size, fill_next, fill_done, fill_refused}
+use Rattle.win_sampled.proofs.FillLaws.{Filling}
 use Rattle.win_sampled.proofs.fill.fill_f32.Given as goal
 
 abbrev pub invariant-loop-i : goal.invariant-loop-i

@@ -1,8 +1,7 @@
 -- `win_sampled::fill::fill_q15` meets its contract; FillLaws has what it shares with the fill of f32s. Assumes nothing.
-use Rattle.std.proofs.Common.{◌-◌, length, ap, ◌∙◌, arith, w16, rules}
-use mir.ValLaws.{to_z-of_z}
+use Rattle.std.proofs.Common.{◌-◌, length}
 use Rattle.fmt_q15.specs.Q15.{q15_of}
-use Rattle.win_sampled.proofs.FillLaws.{Filling, fill_start, same_size, fill_next, fill_done, fill_refused}
+use Rattle.win_sampled.proofs.FillLaws.{Filling}
 use Rattle.win_sampled.proofs.fill.fill_q15.Given as goal
 
 abbrev pub invariant-loop-i : goal.invariant-loop-i

@@ -1,5 +1,5 @@
 -- `win_sampled::shape::arguments_of` meets its contract. Assumes nothing.
-use Rattle.std.proofs.Common.{ap, ◌∙◌, rules}
+use Rattle.std.proofs.Common.{ap, ◌∙◌}
 use Rattle.win_shapes.specs.declared.curve.Curve.{Curve}
 use Rattle.win_shapes.specs.Steps.{argument_of}
 use Rattle.win_sampled.proofs.shape.arguments_of.Goals as goal

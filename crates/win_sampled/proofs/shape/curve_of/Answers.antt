@@ -1,5 +1,5 @@
 -- `win_sampled::shape::curve_of` meets its contract, a window at a time. Assumes nothing.
-use Rattle.std.proofs.Common.{sym, rules}
+use Rattle.std.proofs.Common.{sym}
 use Rattle.win_sampled.specs.SampleLaws.{curve_of}
 use Rattle.win_sampled.proofs.shape.curve_of.Goals as goal
 

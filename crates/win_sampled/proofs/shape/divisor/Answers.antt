@@ -1,5 +1,5 @@
 -- `win_sampled::shape::divisor` meets its contract. Assumes nothing.
-use Rattle.std.proofs.Common.{sym, rules}
+use Rattle.std.proofs.Common.{sym}
 use Rattle.win_sampled.specs.Shapes.{divisor_of}
 use Rattle.win_sampled.proofs.shape.divisor.Goals as goal
 

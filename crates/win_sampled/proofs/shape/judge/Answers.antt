@@ -1,6 +1,5 @@
 -- `win_sampled::shape::judge` meets its contract: what each test says, and then an answer at a time. Assumes nothing.
-use Rattle.std.proofs.Common.{◌≡◌, ℕ, true, sym, ap, ◌∙◌, rules}
-use borrow.Author.Tests.{not-true, not-false}
+use Rattle.std.proofs.Common.{◌≡◌, ℕ, true, sym, ap, ◌∙◌}
 use Rattle.win_sampled.specs.Shapes.{shape_taken, divisor_of, series_settle, judgement_of}
 use Rattle.win_sampled.proofs.shape.judge.Goals as goal
 

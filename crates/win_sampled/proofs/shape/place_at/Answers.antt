@@ -1,5 +1,5 @@
 -- `win_sampled::shape::place_at` meets its contract. Assumes nothing.
-use Rattle.std.proofs.Common.{◌∙◌, rules}
+use Rattle.std.proofs.Common.{◌∙◌}
 use Rattle.win_sampled.specs.SampleLaws.{place_at}
 use Rattle.win_sampled.proofs.shape.place_at.Goals as goal
 

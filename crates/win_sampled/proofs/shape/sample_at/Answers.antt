@@ -1,5 +1,4 @@
 -- `win_sampled::shape::sample_at` meets its contract. Assumes nothing.
-use Rattle.std.proofs.Common.{rules}
 use Rattle.win_sampled.specs.SampleLaws.{in_steps}
 use Rattle.win_sampled.proofs.shape.sample_at.Goals as goal
 

@@ -1,5 +1,5 @@
 -- `win_sampled::shape::series_settle` meets its contract, a shape at a time. Assumes nothing.
-use Rattle.std.proofs.Common.{sym, ◌∙◌, rules}
+use Rattle.std.proofs.Common.{sym, ◌∙◌}
 use Rattle.win_sampled.specs.Shapes.{series_settle}
 use Rattle.win_sampled.proofs.shape.series_settle.Goals as goal
 

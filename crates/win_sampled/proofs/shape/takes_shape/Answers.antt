@@ -1,5 +1,5 @@
 -- `win_sampled::shape::takes_shape` meets its contract, a shape at a time. Assumes nothing.
-use Rattle.std.proofs.Common.{sym, ◌∙◌, rules}
+use Rattle.std.proofs.Common.{sym, ◌∙◌}
 use lib.Ieee.{of_bits, of_int}
 use Rattle.win_sampled.specs.Shapes.{shape_taken}
 use Rattle.win_sampled.proofs.shape.takes_shape.Goals as goal

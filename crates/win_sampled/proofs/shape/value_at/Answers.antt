@@ -1,5 +1,5 @@
 -- `win_sampled::shape::value_at` meets its contract. Assumes nothing.
-use Rattle.std.proofs.Common.{sym, ◌∙◌, rules, eq-eqb, ne_eqb}
+use Rattle.std.proofs.Common.{sym, ◌∙◌, eq-eqb, ne_eqb}
 use lib.Ieee.{of_bits, of_int}
 use Rattle.win_sampled.specs.SampleLaws.{value_at}
 use Rattle.win_sampled.proofs.shape.value_at.Goals as goal

@@ -1,5 +1,5 @@
 -- `win_sampled::shape::value_of` meets its contract, a window at a time. Assumes nothing.
-use Rattle.std.proofs.Common.{sym, ◌∙◌, rules}
+use Rattle.std.proofs.Common.{sym, ◌∙◌}
 use Rattle.win_sampled.specs.SampleLaws.{value_of}
 use Rattle.win_sampled.proofs.shape.value_of.Goals as goal
 

@@ -1,6 +1,6 @@
 -- `win_sampled::shape::values_of` meets its contract. Kaiser's are worked out together, the others each by itself.
 -- Assumes nothing.
-use Rattle.std.proofs.Common.{sym, ap, ◌∙◌, rules}
+use Rattle.std.proofs.Common.{sym, ap, ◌∙◌}
 use Rattle.win_sampled.specs.declared.shape.Shape.{Shape}
 use Rattle.win_sampled.specs.SampleLaws.{value_of}
 use Rattle.win_sampled.proofs.shape.values_of.Goals as goal

@@ -2,7 +2,6 @@
 use mathlib.Core.Path.{refl}
 use lib.Ieee.{of_bits, of_int, round}
 use Rattle.win_shapes.specs.Windows.{harris_at}
-use borrow.Author.Rules.{rules}
 use Rattle.win_shapes.proofs.cosines.blackman_harris.Goals as goal
 
 pub returns : goal.returns

@@ -1,7 +1,6 @@
 -- `win_shapes::curve::argument_of` meets its contract, a curve at a time. Assumes nothing.
 use mathlib.Core.Path.{sym, ◌∙◌}
 use Rattle.win_shapes.specs.Steps.{argument_of}
-use borrow.Author.Rules.{rules}
 use Rattle.win_shapes.proofs.curve.argument_of.Goals as goal
 
 pub returns-in-Cosines : goal.returns-in-Cosines

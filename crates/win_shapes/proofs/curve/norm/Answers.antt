@@ -2,7 +2,6 @@
 use mathlib.Core.Path.{sym}
 use lib.Ieee.{of_bits, of_int}
 use Rattle.win_shapes.specs.Steps.{norm_of}
-use borrow.Author.Rules.{rules}
 use Rattle.win_shapes.proofs.curve.norm.Goals as goal
 
 pub returns-in-Cosines : goal.returns-in-Cosines

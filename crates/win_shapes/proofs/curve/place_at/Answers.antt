@@ -3,7 +3,6 @@ use mathlib.Core.Path.{sym, ◌∙◌}
 use lib.Ieee.{of_bits, of_int, round}
 use Rattle.win_shapes.specs.Windows.{angle}
 use Rattle.win_shapes.specs.Steps.{place_at}
-use borrow.Author.Rules.{rules}
 use Rattle.win_shapes.proofs.curve.place_at.Goals as goal
 
 pub returns-in-Cosines : goal.returns-in-Cosines

@@ -1,5 +1,4 @@
 -- `win_shapes::kaiser::argument` meets its contract. Assumes nothing.
-use borrow.Author.Rules.{rules}
 use Rattle.win_shapes.proofs.kaiser.argument.Goals as goal
 
 pub returns : goal.returns

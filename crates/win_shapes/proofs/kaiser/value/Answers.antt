@@ -1,5 +1,4 @@
 -- `win_shapes::kaiser::value` meets its contract. Assumes nothing.
-use borrow.Author.Rules.{rules}
 use Rattle.win_shapes.proofs.kaiser.value.Goals as goal
 
 pub returns : goal.returns

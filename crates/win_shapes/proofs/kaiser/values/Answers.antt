@@ -1,6 +1,5 @@
 -- `win_shapes::kaiser::values` meets its contract. Assumes nothing.
 use mathlib.Core.Path.{ap}
-use borrow.Author.Rules.{rules}
 use lib.Ieee.{Float}
 use Rattle.laws.specs.Binary64.{◌⊘◌}
 use Rattle.win_shapes.proofs.kaiser.values.Goals as goal

@@ -1,5 +1,5 @@
 -- `fir_gaussian::gaussian_design::Gaussian::tap` meets its contract. Assumes nothing.
-use Rattle.std.proofs.Common.{sym, rules, le-ltb, lt-ltb}
+use Rattle.std.proofs.Common.{sym, le-ltb, lt-ltb}
 use lib.Ieee.{of_bits, of_int}
 use Rattle.fir_gaussian.specs.Gaussian.{tap_of}
 use Rattle.fir_gaussian.proofs.gaussian_design.Gaussian.tap.Goals as goal

@@ -1,5 +1,4 @@
 -- `fir_lowpass::lowpass::Lowpass::tap` meets its contract. Assumes nothing.
-use borrow.Author.Rules.{rules}
 use mathlib.Core.Path.{refl, sym}
 use lib.Ieee.{of_bits, of_int}
 use borrow.Author.Tests.{lt-ltb, le-ltb}

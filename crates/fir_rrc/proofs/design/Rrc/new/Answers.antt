@@ -1,10 +1,8 @@
 -- `fir_rrc::design::Rrc::new` meets its contract: the roll-off first, and then by what came of the length. Assumes
 -- nothing.
-use Rattle.std.proofs.Common.{◌≡◌, sym, ap, ◌∙◌, arith, rules}
-use borrow.Author.Tests.{not-true, not-false}
+use Rattle.std.proofs.Common.{◌≡◌, sym, ap, ◌∙◌, arith}
 use lib.Ieee.{of_bits, of_int, round}
 use Rattle.verdict.specs.declared.Length.{Length}
-use Rattle.verdict.specs.declared.Length.TheVariants as Length
 use Rattle.fir_rrc.specs.Rrc.{rrc_in, rrc_of}
 use Rattle.fir_rrc.specs.RrcLaws.{few, by_length, ready, no_rolloff}
 use Rattle.fir_rrc.proofs.design.Rrc.new.Goals as goal

@@ -1,5 +1,5 @@
 -- `fir_rrc::design::Rrc::tap` meets its contract. Assumes nothing.
-use Rattle.std.proofs.Common.{sym, rules, le-ltb, lt-ltb}
+use Rattle.std.proofs.Common.{sym, le-ltb, lt-ltb}
 use lib.Ieee.{of_bits, of_int}
 use Rattle.fir_rrc.specs.Rrc.{tap_of}
 use Rattle.fir_rrc.proofs.design.Rrc.tap.Goals as goal
