@@ -1,6 +1,6 @@
 -- A record on a card whose ticket meets every premise of the totals, so that what they promise of tickets is not empty:
 -- a Hann low-pass of five taps, cutoff 0.25 at the rate 1. Assumes nothing.
-use Rattle.std.specs.Prelude.{◌≡◌, refl, List, ℕ, T, length, Float}
+use Rattle.std.specs.Prelude.{◌≡◌, refl, List, ◌++◌, ℕ, T, length, Float}
 use Rattle.std.proofs.Common.{sym, ap, ◌∙◌, subst, arith}
 use Rattle.std.specs.Float.Ieee.{of_bits, of_int, round}
 use Rattle.laws.specs.Binary64.{whole, fraction}
@@ -15,7 +15,6 @@ use Rattle.ticket_kinds.specs.declared.Ticket.{Ticket}
 use Rattle.ticket_kinds.specs.declared.Ticket.TheVariants.{Lowpass}
 use Rattle.ticket_card.specs.declared.Reading.TheVariants.{Read}
 use Rattle.ticket_card.specs.Card.{fields_in, read_of}
-use Rattle.ticket_record.specs.Record.{field_bytes, record_of}
 use Rattle.ticket_design.specs.Design.{float, ticket_outcome, ticket_bytes}
 use Rattle.c_lowpass.specs.Lowpass.{lowpass_bytes}
 use Rattle.promise_totals.proofs.WrittenLaws.{of_writes}
@@ -33,8 +32,8 @@ abbrev five : Ticket
 five = Lowpass (record { cutoff = quarter; rate = one; window = Hann; count = 5 })
 
 -- it is read from 46 bytes
-pub five_read : read_of (record_of five) ≡ Read five 46
-unfolding read_of field_count number_of bytes_of field_bytes fields_in window_taken ticket_of
+pub five_read : read_of (bytes_of 4 42 ++ (bytes_of 2 1 ++ (bytes_of 8 quarter ++ (bytes_of 8 one ++ (bytes_of 8 0 ++ (bytes_of 8 0 ++ bytes_of 8 5)))))) ≡ Read five 46
+unfolding read_of field_count number_of bytes_of fields_in window_taken ticket_of
 five_read = refl
 
 -- and designed into 40

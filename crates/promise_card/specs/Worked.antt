@@ -1,6 +1,6 @@
 -- Readings of a few records, worked out: each refusal in its order, an unused beta, a NaN's payload, a card of two
 -- tickets. Assumes nothing.
-use Rattle.std.specs.Prelude.{◌≡◌, refl, List, [], ◌∷◌, ◌++◌, ℕ, take}
+use Rattle.std.specs.Prelude.{◌≡◌, refl, List, [], ◌∷◌, ◌++◌, ℕ, length, take}
 use Rattle.std.proofs.Common.{lit<}
 use Rattle.wire.specs.Bytes.{bytes_of, number_of}
 use Rattle.verdict.specs.declared.Verdict.TheVariants.{Refused}
@@ -10,9 +10,16 @@ use Rattle.ticket_kinds.specs.declared.TicketWindow.TheVariants.{Hann}
 use Rattle.ticket_kinds.specs.declared.Ticket.{Ticket}
 use Rattle.ticket_kinds.specs.declared.Ticket.TheVariants.{Lowpass, Halfband}
 use Rattle.ticket_card.specs.declared.Reading.TheVariants.{Read}
-use Rattle.ticket_card.specs.Card.{fields_in, refused, read_of}
+use Rattle.ticket_card.specs.Card.{fields_in, following, refused, read_of}
 use Rattle.ticket_card.specs.Cards.{CardReads, breaks, next}
-use Rattle.ticket_record.specs.Record.{field_bytes, record_bytes}
+
+-- a record as its bytes: the length of what follows, the kind, the fields
+unfoldable field_bytes : List ℕ → List ℕ
+field_bytes [] = []
+field_bytes (x ∷ xs) = bytes_of 8 x ++ field_bytes xs
+
+abbrev bytes_for : ℕ → List ℕ → List ℕ
+bytes_for k xs = bytes_of 4 (following (length xs)) ++ (bytes_of 2 k ++ field_bytes xs)
 
 five_bytes : read_of (42 ∷ 0 ∷ 0 ∷ 0 ∷ 1 ∷ []) ≡ refused 12
 unfolding read_of
@@ -32,11 +39,11 @@ unfolding read_of field_count number_of
 no_body = refl
 
 -- a window's code above 3 is tested last
-window_four : read_of (record_bytes 1 (1 ∷ 2 ∷ 4 ∷ 0 ∷ 5 ∷ [])) ≡ refused 7
+window_four : read_of (bytes_for 1 (1 ∷ 2 ∷ 4 ∷ 0 ∷ 5 ∷ [])) ≡ refused 7
 unfolding read_of field_count number_of bytes_of field_bytes fields_in window_taken
 window_four = refl
 
-window_four_short : read_of (take 45 (record_bytes 1 (1 ∷ 2 ∷ 4 ∷ 0 ∷ 5 ∷ []))) ≡ refused 12
+window_four_short : read_of (take 45 (bytes_for 1 (1 ∷ 2 ∷ 4 ∷ 0 ∷ 5 ∷ []))) ≡ refused 12
 unfolding read_of field_count number_of bytes_of field_bytes
 window_four_short = refl
 
@@ -44,7 +51,7 @@ window_four_short = refl
 abbrev hann : Ticket
 hann = Lowpass (record { cutoff = 1; rate = 2; window = Hann; count = 5 })
 
-unused_beta : read_of (record_bytes 1 (1 ∷ 2 ∷ 0 ∷ 9 ∷ 5 ∷ [])) ≡ Read hann 46
+unused_beta : read_of (bytes_for 1 (1 ∷ 2 ∷ 0 ∷ 9 ∷ 5 ∷ [])) ≡ Read hann 46
 unfolding read_of field_count number_of bytes_of field_bytes fields_in window_taken ticket_of
 unused_beta = refl
 
@@ -52,13 +59,13 @@ unused_beta = refl
 abbrev payload : Ticket
 payload = Halfband (record { beta = 9218868437227405313; count = 5 })
 
-payload_kept : read_of (record_bytes 3 (9218868437227405313 ∷ 5 ∷ [])) ≡ Read payload 22
+payload_kept : read_of (bytes_for 3 (9218868437227405313 ∷ 5 ∷ [])) ≡ Read payload 22
 unfolding read_of field_count number_of bytes_of field_bytes fields_in window_taken ticket_of
 payload_kept = refl
 
 -- two tickets and five bytes: the card is broken at byte 68
 abbrev card : List ℕ
-card = record_bytes 3 (9218868437227405313 ∷ 5 ∷ []) ++ (record_bytes 1 (1 ∷ 2 ∷ 0 ∷ 9 ∷ 5 ∷ []) ++ (18 ∷ 0 ∷ 0 ∷ 0 ∷ 3 ∷ []))
+card = bytes_for 3 (9218868437227405313 ∷ 5 ∷ []) ++ (bytes_for 1 (1 ∷ 2 ∷ 0 ∷ 9 ∷ 5 ∷ []) ++ (18 ∷ 0 ∷ 0 ∷ 0 ∷ 3 ∷ []))
 
 two_tickets : CardReads card (payload ∷ hann ∷ []) 68 (Refused (Plain 12))
 unfolding read_of field_count number_of bytes_of field_bytes fields_in window_taken ticket_of
