@@ -4,7 +4,7 @@
  * that is said here for every argument, NaN, infinities, zeros of both signs, subnormal numbers and impossible counts
  * included; it allocates nothing, keeps nothing, calls nothing but memset and always returns. On the stack pel_lowpass,
  * pel_lowpass_cosines, pel_design_lowpass, pel_design_new_cutoff, pel_design_new_beta, pel_spec_design, pel_halfband,
- * pel_gaussian, pel_channelizer_prototype and pel_design_ticket take 9,888 bytes at most, the others under 1,600;
+ * pel_gaussian, pel_channelizer_prototype and pel_design_ticket take 10,272 bytes at most, the others under 1,920;
  * docs/FUNCTIONS.md has the bytes of each.
  *
  * The bits are the same on every reader: each operation is rounded once to a double, to the nearest, ties to even. A

@@ -40,7 +40,7 @@
 //! tap raises "invalid".
 //!
 //! On the stack the exports behind [`lowpass`], [`Lowpass`], [`Spec::design`], [`halfband`], [`gaussian`],
-//! [`channelizer_prototype`] and [`Ticket::design`] take 9,888 bytes at most, the others under 1,600; the repository's
+//! [`channelizer_prototype`] and [`Ticket::design`] take 10,272 bytes at most, the others under 1,920; the repository's
 //! `docs/FUNCTIONS.md` has the bytes of each.
 //!
 //! # What is proved, and what isn't
