@@ -1,15 +1,15 @@
 -- What comes of the numbers of a ticket: why they are none, or what comes of the ticket. Definitions only.
-use Rattle.std.specs.Prelude.{ℕ}
+use Rattle.std.specs.Prelude.{ℕ, Err, Ok, Result}
 use Rattle.verdict.specs.Outcome.{Outcome}
-use Rattle.ticket_kinds.specs.declared.numbers.Formed.{Formed}
-use Rattle.ticket_kinds.specs.declared.numbers.Formed.TheVariants.{Known, Refused}
 use Rattle.ticket_design.specs.Design.{ticket_bytes, judgement_of}
+use Rattle.ticket_kinds.specs.declared.Ticket.{Ticket}
+use Rattle.verdict.specs.declared.Refusal.{Refusal}
 
-abbrev pub judged_for : Formed → Outcome
-judged_for (Known t) = judgement_of t
-judged_for (Refused why) = Outcome.Refused why
+abbrev pub judged_for : Result Ticket Refusal → Outcome
+judged_for (Ok t) = judgement_of t
+judged_for (Err why) = Outcome.Refused why
 
 -- for a buffer of len bytes
-abbrev pub bytes_for : Formed → ℕ → Outcome
-bytes_for (Known t) len = ticket_bytes t len
-bytes_for (Refused why) len = Outcome.Refused why
+abbrev pub bytes_for : Result Ticket Refusal → ℕ → Outcome
+bytes_for (Ok t) len = ticket_bytes t len
+bytes_for (Err why) len = Outcome.Refused why

@@ -8,7 +8,7 @@ use ticket_card::Reading;
 use ticket_card::card::check;
 use ticket_card::reader::read;
 use ticket_kinds::numbers::{Numbers, numbers_of};
-use verdict::{Report, Verdict};
+use verdict::{Refusal, Report};
 
 // What pel_read_ticket answers: the ticket, and the report.
 #[repr(C)]
@@ -29,14 +29,14 @@ pub fn pel_read_ticket(src: &[u8]) -> TicketRead
     match reading {
         Reading::Read(t, taken) => {
             let numbers = numbers_of(t);
-            let report = verdict::accepted(taken as u64, 0.0);
+            let report = Report::accepted(taken as u64, 0.0);
             TicketRead {
                 ticket: numbers,
                 report: report,
             }
         }
         Reading::Refused(why) => {
-            let report = verdict::refused(why);
+            let report = Report::from(why);
             TicketRead {
                 ticket: Numbers {
                     kind: 0,
@@ -62,12 +62,12 @@ pub struct CardChecked {
 }
 
 // What is told of n tickets.
-pub(crate) fn told_end(n: u64, ended: Verdict) -> Report
+pub(crate) fn told_end(n: u64, ended: Result<(), Refusal>) -> Report
     ensures { result ≡ done_report n ended }
 {
     match ended {
-        Verdict::Done => verdict::accepted(n, 0.0),
-        Verdict::Refused(why) => verdict::refused(why),
+        Ok(()) => Report::accepted(n, 0.0),
+        Err(why) => Report::from(why),
     }
 }
 

@@ -8,7 +8,7 @@ ghost use Rattle.c_card.specs.Tickets.{judged_for, bytes_for};
 
 use ticket_design::design::design;
 use ticket_design::judge::judge;
-use ticket_kinds::numbers::{Formed, Numbers, ticket_of};
+use ticket_kinds::numbers::{Numbers, ticket_of};
 use verdict::Report;
 
 // Judges a ticket as it would be designed into a buffer of its own length: its number of taps as the count, what they
@@ -19,8 +19,8 @@ pub fn pel_judge_ticket(ticket: Numbers) -> Report
 {
     let formed = ticket_of(ticket);
     match formed {
-        Formed::Known(t) => verdict::told_judged(judge(t)),
-        Formed::Refused(why) => verdict::refused(why),
+        Ok(t) => Report::from(judge(t)),
+        Err(why) => Report::from(why),
     }
 }
 
@@ -33,7 +33,7 @@ pub fn pel_design_ticket(ticket: Numbers, out: &mut [u8]) -> Report
 {
     let formed = ticket_of(ticket);
     match formed {
-        Formed::Known(t) => design(t, &mut *out),
-        Formed::Refused(why) => verdict::refused(why),
+        Ok(t) => design(t, &mut *out),
+        Err(why) => Report::from(why),
     }
 }

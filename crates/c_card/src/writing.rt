@@ -3,7 +3,7 @@ ghost use Rattle.ticket_kinds.specs.Kinds.{formed_of};
 ghost use Rattle.c_card.specs.Writing.{WritesTicket};
 
 use super::reading::told_end;
-use ticket_kinds::numbers::{Formed, Numbers, ticket_of};
+use ticket_kinds::numbers::{Numbers, ticket_of};
 use ticket_record::write;
 use verdict::Report;
 
@@ -18,10 +18,10 @@ pub fn pel_write_ticket(ticket: Numbers, out: &mut [u8]) -> Report
     let len = out.len() as u64;
     let formed = ticket_of(ticket);
     match formed {
-        Formed::Known(t) => {
+        Ok(t) => {
             let ended = write(t, &mut *out);
             told_end(len, ended)
         }
-        Formed::Refused(why) => verdict::refused(why),
+        Err(why) => Report::from(why),
     }
 }

@@ -6,7 +6,7 @@ ghost use Rattle.wire.specs.Bytes.{float_at};
 ghost use Rattle.c_cosines.specs.Loads.{numbers_in, load_bytes, answer_of};
 
 use verdict::{Refusal, Report};
-use win_cosines::{Loading, loaded};
+use win_cosines::loaded;
 use win_shapes::cosines::Cosines;
 
 // What pel_load_cosines answers: the window to design with, and the report.
@@ -47,15 +47,15 @@ fn number_at(src: &[u8], i: usize) -> f64
 }
 
 // What is answered where n numbers were given.
-fn answer(n: u64, loading: Loading) -> Loaded
+fn answer(n: u64, loading: Result<Cosines, Refusal>) -> Loaded
     ensures { result ≡ answer_of n loading }
 {
     match loading {
-        Loading::Loaded(c) => Loaded {
+        Ok(c) => Loaded {
             window: c,
-            report: verdict::accepted(n, 0.0),
+            report: Report::accepted(n, 0.0),
         },
-        Loading::Refused(why) => Loaded {
+        Err(why) => Loaded {
             window: Cosines {
                 c0: 0.0,
                 c1: 0.0,
@@ -63,18 +63,18 @@ fn answer(n: u64, loading: Loading) -> Loaded
                 c3: 0.0,
                 c4: 0.0,
             },
-            report: verdict::refused(why),
+            report: Report::from(why),
         },
     }
 }
 
 // What comes of a list of bytes.
-fn load_bytes(src: &[u8]) -> Loading
+fn load_bytes(src: &[u8]) -> Result<Cosines, Refusal>
     ensures { result ≡ load_bytes src.now }
 {
     let len = src.len() as u64;
     if len % 8 != 0 {
-        return Loading::Refused(Refusal::Length(len - len % 8, len));
+        return Err(Refusal::Length(len - len % 8, len));
     }
     loaded(
         len / 8,

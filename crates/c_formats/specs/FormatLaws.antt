@@ -1,5 +1,5 @@
 -- What comes of one value in each format, and what that tells of the value. Assumes nothing.
-use Rattle.std.specs.Prelude.{◌≡◌, Bool, ℕ, ◌<◌, ℤ, Float}
+use Rattle.std.specs.Prelude.{◌≡◌, Bool, ℕ, ◌<◌, ℤ, Float, Err, Ok}
 use Rattle.std.proofs.Math.Path.{refl}
 use Rattle.std.proofs.Math.Bool.{true, false, cond}
 use Rattle.std.proofs.Common.{lit≤}
@@ -7,9 +7,7 @@ use Rattle.wire.specs.Bytes.{twos_of}
 use Rattle.verdict.specs.declared.Refusal.{Refusal}
 use Rattle.fmt_q15.specs.Q15 as Q15
 use Rattle.fmt_q14.specs.Q14 as Q14
-use Rattle.fmt_q15.specs.declared.q15.Coded.TheVariants as Coded
 use Rattle.c_formats.specs.declared.element.Format.{Format}
-use Rattle.c_formats.specs.declared.element.Encoded.TheVariants.{Pattern, Refused}
 use Rattle.c_formats.specs.Formats.{width_of, takes_of, pattern_of, outside_of, encoded_of, coded_of}
 
 -- an element has a byte at least
@@ -21,7 +19,7 @@ wide Format.Single = lit≤ tt
 
 -- ---- in each format
 module _ (i : ℕ) (x : Float) where
-  same : (b : Bool) (q : ℤ) (why : Refusal) → coded_of (cond b (Coded.Number q) (Coded.Refused why)) ≡ cond b (Pattern (twos_of q)) (Refused why)
+  same : (b : Bool) (q : ℤ) (why : Refusal) → coded_of (cond b (Ok q) (Err why)) ≡ cond b (Ok (twos_of q)) (Err why)
   same true q why = refl
   same false q why = refl
 
@@ -33,24 +31,24 @@ module _ (i : ℕ) (x : Float) where
   unfolding Q14.q14_tap_of encoded_of takes_of pattern_of outside_of
   encoded_q14 = same (Q14.takes x) (Q14.q14_of x) (Q14.outside i x)
 
-  pub encoded_single : Pattern (pattern_of Format.Single x) ≡ encoded_of Format.Single i x
+  pub encoded_single : Ok (pattern_of Format.Single x) ≡ encoded_of Format.Single i x
   unfolding encoded_of takes_of
   encoded_single = refl
 
 -- ---- what it tells
 module _ (f : Format) (i : ℕ) (x : Float) where
-  pub pattern_tells : (p : ℕ) → encoded_of f i x ≡ Pattern p → (takes_of f x ≡ true) × (pattern_of f x ≡ p)
+  pub pattern_tells : (p : ℕ) → encoded_of f i x ≡ Ok p → (takes_of f x ≡ true) × (pattern_of f x ≡ p)
   unfolding encoded_of
   pattern_tells p e = go (takes_of f x) e
     where
-      go : (b : Bool) → cond b (Pattern (pattern_of f x)) (Refused (outside_of f i x)) ≡ Pattern p → (b ≡ true) × (pattern_of f x ≡ p)
+      go : (b : Bool) → cond b (Ok (pattern_of f x)) (Err (outside_of f i x)) ≡ Ok p → (b ≡ true) × (pattern_of f x ≡ p)
       go true e = (refl, cc)
       go false e = (cc, cc)
 
-  pub refusal_tells : (why : Refusal) → encoded_of f i x ≡ Refused why → (takes_of f x ≡ false) × (outside_of f i x ≡ why)
+  pub refusal_tells : (why : Refusal) → encoded_of f i x ≡ Err why → (takes_of f x ≡ false) × (outside_of f i x ≡ why)
   unfolding encoded_of
   refusal_tells why e = go (takes_of f x) e
     where
-      go : (b : Bool) → cond b (Pattern (pattern_of f x)) (Refused (outside_of f i x)) ≡ Refused why → (b ≡ false) × (outside_of f i x ≡ why)
+      go : (b : Bool) → cond b (Ok (pattern_of f x)) (Err (outside_of f i x)) ≡ Err why → (b ≡ false) × (outside_of f i x ≡ why)
       go true e = (cc, cc)
       go false e = (refl, cc)

@@ -1,16 +1,13 @@
 -- What an f64 is in each format: whether it is taken, and its bit pattern. Definitions only.
-use Rattle.std.specs.Prelude.{ℕ, Bool, true, cond, List, Float}
+use Rattle.std.specs.Prelude.{ℕ, Bool, true, cond, List, Float, Err, Ok, Result, ℤ}
 use Rattle.std.specs.Float.{binary32}
 use Rattle.std.specs.Float.Ieee.{to_bits}
 use Rattle.wire.specs.Bytes.{bytes_of, twos_of}
 use Rattle.verdict.specs.declared.Refusal.{Refusal}
 use Rattle.fmt_q15.specs.Q15 as Q15
 use Rattle.fmt_q14.specs.Q14 as Q14
-use Rattle.fmt_q15.specs.declared.q15.Coded.{Coded}
 use Rattle.fmt_f32.specs.Single.{single_of, any_outside}
 use Rattle.c_formats.specs.declared.element.Format.{Format}
-use Rattle.c_formats.specs.declared.element.Encoded.{Encoded}
-use Rattle.c_formats.specs.declared.element.Encoded.TheVariants.{Pattern, Refused}
 
 -- bytes an element
 unfoldable pub width_of : Format → ℕ
@@ -35,14 +32,14 @@ outside_of Format.Q15 = Q15.outside
 outside_of Format.Q14 = Q14.outside
 outside_of Format.Single = any_outside
 
-unfoldable pub encoded_of : Format → ℕ → Float → Encoded
+unfoldable pub encoded_of : Format → ℕ → Float → Result ℕ Refusal
 unfolding takes_of pattern_of outside_of
-encoded_of f i x = cond (takes_of f x) (Pattern (pattern_of f x)) (Refused (outside_of f i x))
+encoded_of f i x = cond (takes_of f x) (Ok (pattern_of f x)) (Err (outside_of f i x))
 
 abbrev pub bytes_in : Format → Float → List ℕ
 bytes_in f x = bytes_of (width_of f) (pattern_of f x)
 
 -- a 16-bit number as its pattern
-abbrev pub coded_of : Coded → Encoded
-coded_of (Coded.Number q) = Pattern (twos_of q)
-coded_of (Coded.Refused why) = Refused why
+abbrev pub coded_of : Result ℤ Refusal → Result ℕ Refusal
+coded_of (Ok q) = Ok (twos_of q)
+coded_of (Err why) = Err why

@@ -1,36 +1,35 @@
 // A buffer of f64s converted to another format, from bytes to bytes.
-ghost use Rattle.std.specs.Prelude.{◌≡◌, ◌+◌, ◌*◌, ◌/◌, ◌%◌, ◌<◌, ◌≤◌, length};
+ghost use Rattle.std.specs.Prelude.{◌≡◌, ◌+◌, ◌*◌, ◌/◌, ◌%◌, ◌<◌, ◌≤◌, length, Ok};
 ghost use Rattle.std.specs.Float.{binary64};
 ghost use Rattle.std.specs.Float.Ieee.{of_bits};
 ghost use Rattle.wire.specs.Bytes.{float_at, put_of};
-ghost use Rattle.verdict.specs.declared.Verdict.TheVariants.{Done};
 ghost use Rattle.c_formats.specs.declared.element.Format.TheVariants.{Single};
 ghost use Rattle.c_formats.specs.Formats.{width_of};
 ghost use Rattle.c_formats.specs.Conversions.{lengths_of, ConvertsWhole, ConvertsBytes};
 
-use super::element::{Encoded, Format, encode, width};
-use verdict::{Refusal, Report, Verdict};
+use super::element::{Format, encode, width};
+use verdict::{Refusal, Report};
 
 // Whether two lengths in bytes fit a conversion to elements of so many bytes, of which a group belongs together.
-fn judge_lengths(from: u64, to: u64, wide: u64, group: u64) -> Verdict
+fn judge_lengths(from: u64, to: u64, wide: u64, group: u64) -> Result<(), Refusal>
     requires wide_low { 0 < wide }
     requires group_low { 0 < group }
     ensures { result ≡ lengths_of wide group from to }
 {
     if from % 8 != 0 {
-        return Verdict::Refused(Refusal::Length(from - from % 8, from));
+        return Err(Refusal::Length(from - from % 8, from));
     }
     if to % wide != 0 {
-        return Verdict::Refused(Refusal::Length(to - to % wide, to));
+        return Err(Refusal::Length(to - to % wide, to));
     }
     let n = from / 8;
     if n % group != 0 {
-        return Verdict::Refused(Refusal::Length(n - n % group, n));
+        return Err(Refusal::Length(n - n % group, n));
     }
     if n != to / wide {
-        return Verdict::Refused(Refusal::Length(n, to / wide));
+        return Err(Refusal::Length(n, to / wide));
     }
-    Verdict::Done
+    Ok(())
 }
 
 // The pattern of the f64 that is element i. Its place is proved, so nothing is tested, and the eight loads become one.
@@ -90,7 +89,7 @@ fn store(format: Format, out: &mut [u8], at: usize, pattern: u64)
 }
 
 // The elements of a source of whole f64s into a destination for as many, up to the first that isn't taken.
-fn put_elements(format: Format, src: &[u8], out: &mut [u8]) -> Verdict
+fn put_elements(format: Format, src: &[u8], out: &mut [u8]) -> Result<(), Refusal>
     requires whole { length src.now % 8 ≡ 0 }
     requires room { length out.old ≡ width_of format * (length src.now / 8) }
     ensures { ConvertsWhole format src.now out.old result out.new }
@@ -100,15 +99,15 @@ fn put_elements(format: Format, src: &[u8], out: &mut [u8]) -> Verdict
     for i in 0..n {
         let e = encode(format, i as u64, wire::float_of(bits_at(src, i)));
         match e {
-            Encoded::Pattern(pattern) => {
+            Ok(pattern) => {
                 store(format, &mut *out, wide * i, pattern);
             }
-            Encoded::Refused(why) => {
-                return Verdict::Refused(why);
+            Err(why) => {
+                return Err(why);
             }
         }
     }
-    Verdict::Done
+    Ok(())
 }
 
 // The f32s of a source of whole f64s. Every value has one, so nothing is asked of an element, and the loop is a load, a
@@ -116,7 +115,7 @@ fn put_elements(format: Format, src: &[u8], out: &mut [u8]) -> Verdict
 fn put_singles(src: &[u8], out: &mut [u8])
     requires whole { length src.now % 8 ≡ 0 }
     requires room { length out.old ≡ width_of Single * (length src.now / 8) }
-    ensures { ConvertsWhole Single src.now out.old Done out.new }
+    ensures { ConvertsWhole Single src.now out.old (Ok tt) out.new }
 {
     let n = src.len() / 8;
     for i in 0..n {
@@ -126,7 +125,7 @@ fn put_singles(src: &[u8], out: &mut [u8])
 }
 
 // The elements in any format, each by its own loop.
-fn put_all(format: Format, src: &[u8], out: &mut [u8]) -> Verdict
+fn put_all(format: Format, src: &[u8], out: &mut [u8]) -> Result<(), Refusal>
     requires whole { length src.now % 8 ≡ 0 }
     requires room { length out.old ≡ width_of format * (length src.now / 8) }
     ensures { ConvertsWhole format src.now out.old result out.new }
@@ -136,7 +135,7 @@ fn put_all(format: Format, src: &[u8], out: &mut [u8]) -> Verdict
         Format::Q14 => put_elements(Format::Q14, src, &mut *out),
         Format::Single => {
             put_singles(src, &mut *out);
-            Verdict::Done
+            Ok(())
         }
     }
 }
@@ -150,13 +149,13 @@ pub(crate) fn convert(format: Format, group: u64, src: &[u8], out: &mut [u8]) ->
     let from = src.len() as u64;
     let lengths = judge_lengths(from, out.len() as u64, width(format), group);
     match lengths {
-        Verdict::Done => {
+        Ok(()) => {
             let converted = put_all(format, src, &mut *out);
             match converted {
-                Verdict::Done => verdict::accepted(from / 8, 0.0),
-                Verdict::Refused(why) => verdict::refused(why),
+                Ok(()) => Report::accepted(from / 8, 0.0),
+                Err(why) => Report::from(why),
             }
         }
-        Verdict::Refused(why) => verdict::refused(why),
+        Err(why) => Report::from(why),
     }
 }

@@ -2,7 +2,6 @@
 ghost use Rattle.std.specs.Prelude.{◌≡◌};
 ghost use Rattle.c_formats.specs.Formats.{width_of, coded_of, encoded_of};
 
-use fmt_q15::q15::Coded;
 use verdict::Refusal;
 
 // What an f64 is converted to: Q15 or Q14 in two bytes, f32 in four.
@@ -11,13 +10,6 @@ pub enum Format {
     Q15,
     Q14,
     Single,
-}
-
-// An element's pattern, or why it has none.
-#[derive(Clone, Copy)]
-pub enum Encoded {
-    Pattern(u64),
-    Refused(Refusal),
 }
 
 // How many bytes an element has.
@@ -32,22 +24,22 @@ pub(crate) fn width(format: Format) -> u64
 }
 
 // A 16-bit number as its pattern.
-fn coded(c: Coded) -> Encoded
+fn coded(c: Result<i16, Refusal>) -> Result<u64, Refusal>
     ensures { result ≡ coded_of c }
 {
     match c {
-        Coded::Number(q) => Encoded::Pattern(wire::bits_of(q)),
-        Coded::Refused(why) => Encoded::Refused(why),
+        Ok(q) => Ok(wire::bits_of(q)),
+        Err(why) => Err(why),
     }
 }
 
 // The value x, element i of its buffer.
-pub(crate) fn encode(format: Format, i: u64, x: f64) -> Encoded
+pub(crate) fn encode(format: Format, i: u64, x: f64) -> Result<u64, Refusal>
     ensures { result ≡ encoded_of format i x }
 {
     match format {
         Format::Q15 => coded(fmt_q15::q15::q15_tap(i, x)),
         Format::Q14 => coded(fmt_q14::q14_from_f64(i, x)),
-        Format::Single => Encoded::Pattern(fmt_f32::narrow::pattern_of(x) as u64),
+        Format::Single => Ok(fmt_f32::narrow::pattern_of(x) as u64),
     }
 }

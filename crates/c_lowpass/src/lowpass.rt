@@ -11,8 +11,8 @@ use super::told::told_lowpass;
 use fir_cache::CACHED;
 use fir_lowpass::lowpass::Lowpass;
 use ticket_bytes::lowpasses::put_lowpass;
-use ticket_codes::{Coded, window_of};
-use verdict::{BAD_CODE, Refusal, Report};
+use ticket_codes::window_of;
+use verdict::{Reason, Refusal, Report};
 
 // Judges a design and gives its number of taps as the count and the sum that they are divided by as the value. Windows:
 // 0 Hann, 1 Hamming, 2 Blackman, 3 Kaiser with beta, which the others leave out.
@@ -25,8 +25,8 @@ pub fn pel_lowpass_new(cutoff: f64, rate: f64, window: u64, beta: f64, taps: u64
 {
     let coded = window_of(window, beta);
     match coded {
-        Coded::Known(w) => told_lowpass(Lowpass::new(cutoff, rate, w, taps)),
-        Coded::Unknown => verdict::refused(Refusal::Plain(BAD_CODE)),
+        Some(w) => told_lowpass(Lowpass::new(cutoff, rate, w, taps)),
+        None => Report::from(Refusal::Plain(Reason::Code)),
     }
 }
 
@@ -39,10 +39,10 @@ pub fn pel_lowpass(cutoff: f64, rate: f64, window: u64, beta: f64, out: &mut [u8
 {
     let coded = window_of(window, beta);
     match coded {
-        Coded::Known(w) => {
+        Some(w) => {
             let mut raws = [0.0f64; CACHED];
             put_lowpass(cutoff, rate, w, &mut raws, &mut *out)
         }
-        Coded::Unknown => verdict::refused(Refusal::Plain(BAD_CODE)),
+        None => Report::from(Refusal::Plain(Reason::Code)),
     }
 }

@@ -10,7 +10,7 @@ ghost use Rattle.c_lowpass.specs.Prototype.{channelizer_bytes};
 use super::told::told_lowpass;
 use fir_cache::CACHED;
 use ticket_bytes::lowpasses::put_prototype;
-use verdict::{Report, told_length};
+use verdict::{Report};
 
 // How many taps Kaiser's estimate has for band edges in channel spacings and an attenuation in dB, as the count; not
 // made odd. Refused, in this order: 6 channels that aren't a power of two from 4 to 256; 2 a passband that isn't finite
@@ -19,7 +19,7 @@ use verdict::{Report, told_length};
 pub fn pel_channelizer_taps(channels: u64, passband: f64, stopband: f64, attenuation: f64) -> Report
     ensures { result ≡ length_report (channelizer_taps_of channels passband stopband attenuation) }
 {
-    told_length(fir_channelizer::channelizer_taps(channels, passband, stopband, attenuation))
+    Report::from(fir_channelizer::channelizer_taps(channels, passband, stopband, attenuation))
 }
 
 // How many taps each branch needs, as the count: taps / channels rounded up, refused as pel_channelizer_taps. Example:
@@ -32,7 +32,7 @@ pub fn pel_channelizer_taps_per_branch(
 ) -> Report
     ensures { result ≡ length_report (branch_of channels (channelizer_taps_of channels passband stopband attenuation)) }
 {
-    told_length(fir_channelizer::channelizer_taps_per_branch(
+    Report::from(fir_channelizer::channelizer_taps_per_branch(
         channels,
         passband,
         stopband,

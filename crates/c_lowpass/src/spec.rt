@@ -11,7 +11,7 @@ use super::told::told_lowpass;
 use fir_cache::CACHED;
 use fir_spec::DesignSpec;
 use ticket_bytes::lowpasses::put_spec;
-use verdict::{Report, told_length};
+use verdict::{Report};
 
 // How many taps the specification needs, as the count: odd, at most the cap. The transition lies around the cutoff, the
 // attenuation in dB beyond it.
@@ -34,7 +34,7 @@ pub fn pel_spec_num_taps(
         transition: transition,
         attenuation: attenuation,
     };
-    told_length(spec.num_taps(rate, cap))
+    Report::from(spec.num_taps(rate, cap))
 }
 
 // Judges the design of as many taps as the specification needs: their number as the count, the sum that they are

@@ -1,6 +1,6 @@
 -- What is told of Kaiser's estimate, of a delay in half samples, of a Q15 or Q14 number and of the Bessel series.
 -- Definitions only.
-use Rattle.std.specs.Prelude.{ℕ, cond, Float}
+use Rattle.std.specs.Prelude.{ℕ, cond, Float, Err, Ok, Result, ℤ}
 use Rattle.std.specs.Float.{binary64}
 use Rattle.std.specs.Float.Ieee.{of_int}
 use Rattle.laws.specs.Binary64.{whole}
@@ -9,8 +9,7 @@ use Rattle.verdict.specs.declared.Report.{Report}
 use Rattle.verdict.specs.Report.{report_of, accepted_of}
 use Rattle.math_bessel.specs.declared.Series.{Series}
 use Rattle.fir_length.specs.declared.order.Order.{Order}
-use Rattle.fir_delay.specs.declared.Delayed.{Delayed}
-use Rattle.fmt_q15.specs.declared.q15.Coded.{Coded}
+use Rattle.verdict.specs.declared.Refusal.{Refusal}
 
 -- taps and beta
 abbrev pub order_report : Order → Report
@@ -18,14 +17,14 @@ order_report (Order.Taps n beta) = accepted_of n beta
 order_report (Order.Refused why) = report_of why
 
 -- half samples
-abbrev pub delay_report : Delayed → Report
-delay_report (Delayed.HalfSamples n) = accepted_of n (whole 0)
-delay_report (Delayed.Refused why) = report_of why
+abbrev pub delay_report : Result ℕ Refusal → Report
+delay_report (Ok n) = accepted_of n (whole 0)
+delay_report (Err why) = report_of why
 
 -- a Q15 or Q14 number
-abbrev pub coded_report : Coded → Report
-coded_report (Coded.Number q) = accepted_of 0 (of_int binary64 q)
-coded_report (Coded.Refused why) = report_of why
+abbrev pub coded_report : Result ℤ Refusal → Report
+coded_report (Ok q) = accepted_of 0 (of_int binary64 q)
+coded_report (Err why) = report_of why
 
 -- a series has its number of terms and its sum for every argument, and both are told where it hasn't settled too
 abbrev pub unsettled_of : ℕ → Float → Report

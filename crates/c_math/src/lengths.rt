@@ -5,9 +5,8 @@ ghost use Rattle.fir_length.specs.Kaiser.{order_of, halfband_len_of};
 ghost use Rattle.verdict.specs.Reports.{length_report};
 ghost use Rattle.c_math.specs.Reports.{order_report, delay_report};
 
-use fir_delay::Delayed;
 use fir_length::order::Order;
-use verdict::{Report, told_length};
+use verdict::{Report};
 
 // Kaiser's estimate for a ripple in dB: the taps as the count, 1 to 16777217 and odd, and beta as the value. Refused: 4
 // where the ripple's size isn't finite or is below 8; 3 where 2 transition / rate isn't finite and positive; 3 with 0,
@@ -17,8 +16,8 @@ pub fn pel_kaiserord(ripple: f64, transition: f64, rate: f64) -> Report
 {
     let order = fir_length::order::kaiserord(ripple, transition, rate);
     match order {
-        Order::Taps(n, beta) => verdict::accepted(n, beta),
-        Order::Refused(why) => verdict::refused(why),
+        Order::Taps(n, beta) => Report::accepted(n, beta),
+        Err(why) => Report::from(why),
     }
 }
 
@@ -27,7 +26,7 @@ pub fn pel_kaiserord(ripple: f64, transition: f64, rate: f64) -> Report
 pub fn pel_halfband_len(transition: f64, attenuation: f64, rate: f64) -> Report
     ensures { result ≡ length_report (halfband_len_of transition attenuation rate) }
 {
-    told_length(fir_length::order::halfband_len(transition, attenuation, rate))
+    Report::from(fir_length::order::halfband_len(transition, attenuation, rate))
 }
 
 // The half samples that a linear-phase filter of so many taps delays by, as the count: taps − 1. Refused: 6 for 0 taps.
@@ -37,7 +36,7 @@ pub fn pel_delay(taps: u64) -> Report
 {
     let delayed = fir_delay::delay(taps);
     match delayed {
-        Delayed::HalfSamples(n) => verdict::accepted(n, 0.0),
-        Delayed::Refused(why) => verdict::refused(why),
+        Ok(n) => Report::accepted(n, 0.0),
+        Err(why) => Report::from(why),
     }
 }

@@ -14,7 +14,7 @@ pub fn pel_bessel_i0(x: f64) -> Report
 {
     let s = math_bessel::bessel_i0(x);
     if s.settled {
-        return verdict::accepted(s.terms, s.sum);
+        return Report::accepted(s.terms, s.sum);
     }
     Report {
         number: NOT_SETTLED,

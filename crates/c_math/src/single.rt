@@ -4,8 +4,7 @@ ghost use Rattle.fmt_q15.specs.Q15.{q15_of, q15_tap_of};
 ghost use Rattle.fmt_q14.specs.Q14.{q14_tap_of};
 ghost use Rattle.c_math.specs.Reports.{coded_report};
 
-use fmt_q15::q15::Coded;
-use verdict::Report;
+use verdict::{Refusal, Report};
 
 // floor(32768 x + 0.5), held to −32768 and 32767; 0 for a NaN.
 pub fn pel_q15_from_f64(x: f64) -> i16
@@ -15,12 +14,12 @@ pub fn pel_q15_from_f64(x: f64) -> i16
 }
 
 // A number as the value, or why there is none.
-fn told(c: Coded) -> Report
+fn told(c: Result<i16, Refusal>) -> Report
     ensures { result ≡ coded_report c }
 {
     match c {
-        Coded::Number(q) => verdict::accepted(0, q as f64),
-        Coded::Refused(why) => verdict::refused(why),
+        Ok(q) => Report::accepted(0, q as f64),
+        Err(why) => Report::from(why),
     }
 }
 

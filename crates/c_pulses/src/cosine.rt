@@ -6,16 +6,16 @@ ghost use Rattle.wire.specs.Bytes.{float_bytes};
 ghost use Rattle.wire.specs.Writes.{Writes};
 ghost use Rattle.c_pulses.specs.Buffers.{rrc_bytes};
 
-use fir_rrc::design::{Rrc, RrcDesigned};
+use fir_rrc::design::Rrc;
 use ticket_bytes::pulses::put_rrc;
-use verdict::{Report, told_length};
+use verdict::{Report};
 
 // How many taps a pulse of so many samples a symbol and a span of so many symbols has, as the count: span · samples +
 // 1. Refused, in this order: 6 with 2, 1024, samples; 6 with 4, 32, span. Example: (2, 4) has 9.
 pub fn pel_rrc_len(samples: u64, span: u64) -> Report
     ensures { result ≡ length_report (rrc_len_of samples span) }
 {
-    told_length(fir_rrc::design::rrc_len(samples, span))
+    Report::from(fir_rrc::design::rrc_len(samples, span))
 }
 
 // Judges a root-raised-cosine pulse: its number of taps as the count, the factor that makes their energy 1 as the
@@ -25,8 +25,8 @@ pub fn pel_rrc_new(rolloff: f64, samples: u64, span: u64) -> Report
 {
     let designed = Rrc::new(rolloff, samples, span);
     match designed {
-        RrcDesigned::Ready(d) => verdict::accepted(d.n, d.norm),
-        RrcDesigned::Refused(why) => verdict::refused(why),
+        Ok(d) => Report::accepted(d.n, d.norm),
+        Err(why) => Report::from(why),
     }
 }
 

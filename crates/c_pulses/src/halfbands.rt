@@ -7,7 +7,7 @@ ghost use Rattle.wire.specs.Writes.{Writes};
 ghost use Rattle.c_pulses.specs.Buffers.{halfband_bytes};
 
 use fir_cache::CACHED;
-use fir_halfband::{HalfbandDesign, HalfbandDesigned};
+use fir_halfband::HalfbandDesign;
 use ticket_bytes::pulses::put_halfband;
 use verdict::Report;
 
@@ -20,8 +20,8 @@ pub fn pel_halfband_new(beta: f64, taps: u64) -> Report
 {
     let designed = HalfbandDesign::new(beta, taps);
     match designed {
-        HalfbandDesigned::Ready(d) => verdict::accepted(d.n, d.sum),
-        HalfbandDesigned::Refused(why) => verdict::refused(why),
+        Ok(d) => Report::accepted(d.n, d.sum),
+        Err(why) => Report::from(why),
     }
 }
 

@@ -7,7 +7,7 @@ ghost use Rattle.wire.specs.Writes.{Writes};
 ghost use Rattle.c_pulses.specs.Buffers.{gaussian_bytes};
 
 use fir_cache::CACHED;
-use fir_gaussian::gaussian_design::{Gaussian, GaussianDesigned};
+use fir_gaussian::gaussian_design::Gaussian;
 use ticket_bytes::pulses::put_gaussian;
 use verdict::Report;
 
@@ -19,8 +19,8 @@ pub fn pel_gaussian_new(bt: f64, samples: u64, span: u64) -> Report
 {
     let designed = Gaussian::new(bt, samples, span);
     match designed {
-        GaussianDesigned::Ready(g) => verdict::accepted(g.n, g.sum),
-        GaussianDesigned::Refused(why) => verdict::refused(why),
+        Ok(g) => Report::accepted(g.n, g.sum),
+        Err(why) => Report::from(why),
     }
 }
 

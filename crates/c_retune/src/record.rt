@@ -2,9 +2,9 @@
 ghost use Rattle.std.specs.Prelude.{◌≡◌};
 ghost use Rattle.c_retune.specs.Designs.{design_as, read_of};
 
-use fir_lowpass::lowpass::{Designed, Lowpass};
-use ticket_codes::{Coded, code_of, shape_of, window_of};
-use verdict::{BAD_CODE, Refusal};
+use fir_lowpass::lowpass::Lowpass;
+use ticket_codes::{code_of, shape_of, window_of};
+use verdict::{Reason, Refusal};
 
 // How many taps, the cutoff as a fraction of the rate, the window by its code, its beta (0 where it has none), the
 // value that the window is divided by (the series at beta, or 1), and the sum that the taps are divided by.
@@ -36,19 +36,19 @@ pub(crate) fn design_of(lp: Lowpass) -> Design
 
 // The low-pass of a record, for a buffer of `len` bytes. Refused, in this order: 7 a code that no window has; 8 a
 // length that isn't a multiple of 8, in bytes; 8 a buffer for another number of taps, in taps.
-pub(crate) fn read(kept: Design, len: u64) -> Designed
+pub(crate) fn read(kept: Design, len: u64) -> Result<Lowpass, Refusal>
     ensures { result ≡ read_of kept len }
 {
     let coded = window_of(kept.window, kept.beta);
     match coded {
-        Coded::Known(w) => {
+        Some(w) => {
             if len % 8 != 0 {
-                return Designed::Refused(Refusal::Length(len - len % 8, len));
+                return Err(Refusal::Length(len - len % 8, len));
             }
             if kept.taps != len / 8 {
-                return Designed::Refused(Refusal::Length(kept.taps, len / 8));
+                return Err(Refusal::Length(kept.taps, len / 8));
             }
-            Designed::Ready(Lowpass {
+            Ok(Lowpass {
                 n: kept.taps,
                 fc: kept.fraction,
                 window: w,
@@ -56,6 +56,6 @@ pub(crate) fn read(kept: Design, len: u64) -> Designed
                 sum: kept.sum,
             })
         }
-        Coded::Unknown => Designed::Refused(Refusal::Plain(BAD_CODE)),
+        None => Err(Refusal::Plain(Reason::Code)),
     }
 }

@@ -5,10 +5,9 @@ ghost use Rattle.c_retune.specs.Designs.{none, lowpass_for, cutoff_for, beta_for
 use super::record::{Design, read};
 use super::write::{Tuned, left, written};
 use fir_cache::CACHED;
-use fir_lowpass::lowpass::Designed;
 use fir_retune::{prepare_beta, prepare_cutoff};
-use ticket_codes::{Coded, window_of};
-use verdict::{BAD_CODE, Refusal};
+use ticket_codes::window_of;
+use verdict::{Reason, Refusal};
 
 // Fills the buffer with the taps of a low-pass, eight bytes each, the lowest first, as many as it has room for, and
 // gives the record to keep with it; windows, report and refusals are those of pel_lowpass. A refusal leaves the buffer
@@ -26,7 +25,7 @@ pub fn pel_design_lowpass(cutoff: f64, rate: f64, window: u64, beta: f64, out: &
     };
     let coded = window_of(window, beta);
     match coded {
-        Coded::Known(w) => {
+        Some(w) => {
             let len = out.len() as u64;
             if len % 8 != 0 {
                 return left(kept, Refusal::Length(len - len % 8, len));
@@ -35,7 +34,7 @@ pub fn pel_design_lowpass(cutoff: f64, rate: f64, window: u64, beta: f64, out: &
             let designed = fir_lowpass::lowpass::prepare(cutoff, rate, w, len / 8, &mut raws);
             written(kept, designed, &raws, &mut *out)
         }
-        Coded::Unknown => left(kept, Refusal::Plain(BAD_CODE)),
+        None => left(kept, Refusal::Plain(Reason::Code)),
     }
 }
 
@@ -49,12 +48,12 @@ pub fn pel_design_new_cutoff(design: Design, cutoff: f64, rate: f64, out: &mut [
 {
     let known = read(design, out.len() as u64);
     match known {
-        Designed::Ready(lp) => {
+        Ok(lp) => {
             let mut raws = [0.0f64; CACHED];
             let designed = prepare_cutoff(lp, cutoff, rate, &mut raws);
             written(design, designed, &raws, &mut *out)
         }
-        Designed::Refused(why) => left(design, why),
+        Err(why) => left(design, why),
     }
 }
 
@@ -66,15 +65,15 @@ pub fn pel_design_new_beta(design: Design, beta: f64, out: &mut [u8]) -> Tuned
     ensures { Tunes design (beta_for design beta (length out.old)) out.old result out.new }
 {
     if design.window != 3 {
-        return left(design, Refusal::Plain(BAD_CODE));
+        return left(design, Refusal::Plain(Reason::Code));
     }
     let known = read(design, out.len() as u64);
     match known {
-        Designed::Ready(lp) => {
+        Ok(lp) => {
             let mut raws = [0.0f64; CACHED];
             let designed = prepare_beta(lp, beta, &mut raws);
             written(design, designed, &raws, &mut *out)
         }
-        Designed::Refused(why) => left(design, why),
+        Err(why) => left(design, why),
     }
 }

@@ -5,7 +5,6 @@ ghost use Rattle.ticket_taps.specs.Fits.{FitsLowpass};
 ghost use Rattle.c_retune.specs.Designs.{left_of, Tunes};
 
 use super::record::{Design, design_of};
-use fir_lowpass::lowpass::Designed;
 use ticket_taps::{Source, put_taps};
 use verdict::{Refusal, Report};
 
@@ -23,24 +22,24 @@ pub(crate) fn left(kept: Design, why: Refusal) -> Tuned
 {
     Tuned {
         design: kept,
-        report: verdict::refused(why),
+        report: Report::from(why),
     }
 }
 
 // Writes the taps of a low-pass that the buffer fits, and tells its record, their number and their divisor; tells a
 // refusal, and leaves the record and the buffer.
-pub(crate) fn written(kept: Design, designed: Designed, raws: &[f64], out: &mut [u8]) -> Tuned
+pub(crate) fn written(kept: Design, designed: Result<Lowpass, Refusal>, raws: &[f64], out: &mut [u8]) -> Tuned
     requires { FitsLowpass designed raws.now (length out.old) }
     ensures { Tunes kept designed out.old result out.new }
 {
     match designed {
-        Designed::Ready(lp) => {
+        Ok(lp) => {
             put_taps(Source::Lowpass(lp), raws, &mut *out);
             Tuned {
                 design: design_of(lp),
-                report: verdict::accepted(lp.n, lp.sum),
+                report: Report::accepted(lp.n, lp.sum),
             }
         }
-        Designed::Refused(why) => left(kept, why),
+        Err(why) => left(kept, why),
     }
 }

@@ -6,10 +6,10 @@ ghost use Rattle.wire.specs.Writes.{Writes};
 ghost use Rattle.c_sections.specs.Codes.{response_of};
 ghost use Rattle.c_sections.specs.Numbers.{butterworth_bytes};
 
-use super::codes::{Coded, response_of};
+use super::codes::response_of;
 use super::write::write_numbers;
 use iir_biquad::biquad::Response;
-use verdict::{BAD_CODE, Refusal, Report, Verdict};
+use verdict::{Reason, Refusal, Report};
 
 // Judged first, since only a filter that is taken has few enough numbers for the array: the highest order has 20.
 fn write_cascade(response: Response, order: u64, cutoff: f64, rate: f64, out: &mut [u8]) -> Report
@@ -19,12 +19,12 @@ fn write_cascade(response: Response, order: u64, cutoff: f64, rate: f64, out: &m
     let n = out.len() / 8;
     let judged = iir_butterworth::judge(response, order, cutoff, rate, n as u64);
     match judged {
-        Verdict::Done => {
+        Ok(()) => {
             let mut numbers = [0.0f64; 20];
             iir_butterworth::butterworth_sos(response, order, cutoff, rate, &mut numbers[..n]);
-            write_numbers(Verdict::Done, &numbers[..n], &mut *out)
+            write_numbers(Ok(()), &numbers[..n], &mut *out)
         }
-        Verdict::Refused(why) => verdict::refused(why),
+        Err(why) => Report::from(why),
     }
 }
 
@@ -46,13 +46,13 @@ pub fn pel_butterworth_sos(
 {
     let coded = response_of(response);
     match coded {
-        Coded::Known(known) => {
+        Some(known) => {
             let len = out.len() as u64;
             if len % 8 != 0 {
-                return verdict::refused(Refusal::Length(len - len % 8, len));
+                return Report::from(Refusal::Length(len - len % 8, len));
             }
             write_cascade(known, order, cutoff, rate, &mut *out)
         }
-        Coded::Unknown => verdict::refused(Refusal::Plain(BAD_CODE)),
+        None => Report::from(Refusal::Plain(Reason::Code)),
     }
 }

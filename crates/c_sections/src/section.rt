@@ -5,11 +5,11 @@ ghost use Rattle.wire.specs.Writes.{Writes};
 ghost use Rattle.c_sections.specs.Codes.{response_of};
 ghost use Rattle.c_sections.specs.Numbers.{biquad_bytes, preemphasis_bytes};
 
-use super::codes::{Coded, response_of};
+use super::codes::response_of;
 use super::write::write_numbers;
 use iir_biquad::biquad::biquad_coefs;
 use iir_biquad::preemphasis::preemphasis_coefs;
-use verdict::{BAD_CODE, Refusal, Report};
+use verdict::{Reason, Refusal, Report};
 
 // Fills 40 bytes with the section of a centre frequency and a quality q at a rate: b0, b1, b2, a1, a2 with a0 = 1,
 // eight bytes each, the lowest first; their number, 5, as the count. Responses: 0 low-pass, 1 high-pass, 2 band-pass, 3
@@ -22,17 +22,17 @@ pub fn pel_biquad_coefs(response: u64, centre: f64, q: f64, rate: f64, out: &mut
 {
     let coded = response_of(response);
     match coded {
-        Coded::Known(known) => {
+        Some(known) => {
             let len = out.len() as u64;
             if len != 40 {
-                return verdict::refused(Refusal::Length(40, len));
+                return Report::from(Refusal::Length(40, len));
             }
             let b = biquad_coefs(known, centre, q, rate);
             let coefs = b.coefs;
             let verdict = b.verdict;
             write_numbers(verdict, &coefs, &mut *out)
         }
-        Coded::Unknown => verdict::refused(Refusal::Plain(BAD_CODE)),
+        None => Report::from(Refusal::Plain(Reason::Code)),
     }
 }
 
@@ -46,7 +46,7 @@ pub fn pel_preemphasis_coefs(tau: f64, rate: f64, out: &mut [u8]) -> Report
 {
     let len = out.len() as u64;
     if len != 24 {
-        return verdict::refused(Refusal::Length(24, len));
+        return Report::from(Refusal::Length(24, len));
     }
     let p = preemphasis_coefs(tau, rate);
     let coefs = p.coefs;

@@ -4,21 +4,21 @@ ghost use Rattle.wire.specs.Bytes.{float_bytes};
 ghost use Rattle.wire.specs.Writes.{Writes};
 ghost use Rattle.c_sections.specs.Numbers.{numbers_of};
 
-use verdict::{Report, Verdict};
+use verdict::{Refusal, Report};
 
 // Writes the numbers, eight bytes each, and tells how many; tells a refusal, and leaves the buffer.
-pub(crate) fn write_numbers(verdict: Verdict, numbers: &[f64], out: &mut [u8]) -> Report
+pub(crate) fn write_numbers(verdict: Result<(), Refusal>, numbers: &[f64], out: &mut [u8]) -> Report
     requires { length out.old ≡ 8 * length numbers.now }
     ensures { Writes float_bytes (numbers_of verdict numbers.now) out.old result out.new }
 {
     match verdict {
-        Verdict::Done => {
+        Ok(()) => {
             let n = numbers.len();
             for i in 0..n {
                 wire::put_f64(&mut *out, 8 * i, numbers[i]);
             }
-            verdict::accepted(n as u64, 0.0)
+            Report::accepted(n as u64, 0.0)
         }
-        Verdict::Refused(why) => verdict::refused(why),
+        Err(why) => Report::from(why),
     }
 }

@@ -6,12 +6,10 @@ ghost use Rattle.c_windows.specs.Codes.{symmetry_of};
 ghost use Rattle.c_windows.specs.Samples.{width_of, sample_bytes, window_bytes};
 ghost use Rattle.wire.specs.Writes.{Writes};
 
-use super::codes::{Coded, symmetry_of};
+use super::codes::symmetry_of;
 use super::sample::{Sample, store, width};
-use verdict::{BAD_CODE, Refusal, Report, Verdict};
-use win_sampled::shape::{
-    Shape, arguments_of, divisor, judge, norm, place_at, value_at, values_at,
-};
+use verdict::{Reason, Refusal, Report};
+use win_sampled::shape::{Shape, arguments_of, divisor, judge, norm, place_at, value_at, values_at};
 
 // Fills a buffer of whole samples, sample i at its place. The samples are taken two at a time, since two of Kaiser's
 // series cost little more than one, and two of his roots less than two, and the arguments of the next two are worked
@@ -52,22 +50,22 @@ pub(crate) fn write_window(shape: Shape, code: u64, sample: Sample, out: &mut [u
 {
     let coded = symmetry_of(code);
     match coded {
-        Coded::Known(symmetry) => {
+        Some(symmetry) => {
             let len = out.len() as u64;
             let wide = width(sample);
             if len % wide != 0 {
-                return verdict::refused(Refusal::Length(len - len % wide, len));
+                return Report::from(Refusal::Length(len - len % wide, len));
             }
             let n = len / wide;
             let judged = judge(shape, symmetry, n);
             match judged {
-                Verdict::Done => {
+                Ok(()) => {
                     put_samples(shape, norm(shape), divisor(symmetry, n), sample, &mut *out);
-                    verdict::accepted(n, 0.0)
+                    Report::accepted(n, 0.0)
                 }
-                Verdict::Refused(why) => verdict::refused(why),
+                Err(why) => Report::from(why),
             }
         }
-        Coded::Unknown => verdict::refused(Refusal::Plain(BAD_CODE)),
+        None => Report::from(Refusal::Plain(Reason::Code)),
     }
 }

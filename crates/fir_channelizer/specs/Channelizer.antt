@@ -4,21 +4,20 @@
 --   passband)/M
 --   the prototype is the low-pass of M L taps with the cutoff (passband + stopband)/(2 M) of the rate and Kaiser's
 --   window for A dB
-use Rattle.std.specs.Prelude.{ℕ, ◌*◌, Bool, cond, ◌&&◌, ◌||◌, ◌==◌, nat_le, Float}
+use Rattle.std.specs.Prelude.{ℕ, ◌*◌, Bool, cond, ◌&&◌, ◌||◌, ◌==◌, nat_le, Float, Err, Ok, Result}
 use Rattle.std.specs.Float.Ieee.{lt, le, to_unsigned}
 use Rattle.std.specs.Float.Ieee.Scale.{finite}
 use Rattle.laws.specs.Binary64.{◌⊕◌, ◌⊖◌, ◌⊗◌, ◌⊘◌, whole, fraction}
 use Rattle.laws.specs.Floor.{upward}
 use Rattle.math_numbers.specs.Numbers.{positive}
 use Rattle.math_round.specs.Whole.{ceil_of}
-use Rattle.verdict.specs.Numbers.{bad_frequency, bad_transition, bad_attenuation, bad_count}
 use Rattle.verdict.specs.declared.Refusal.TheVariants as Refusal
 use Rattle.fir_length.specs.Kaiser.{beta_of, estimate}
-use Rattle.verdict.specs.declared.Length.{Length}
 use Rattle.fir_lowpass.specs.Lowpass.{where_passed, lowpass_of}
 use Rattle.fir_sinc.specs.declared.window.Window.TheVariants.{Kaiser}
-use Rattle.fir_lowpass.specs.declared.lowpass.Designed.{Designed}
-use Rattle.verdict.specs.declared.Verdict.{Verdict}
+use Rattle.fir_lowpass.specs.declared.lowpass.Lowpass.{Lowpass}
+use Rattle.verdict.specs.declared.Refusal.{Refusal}
+use Rattle.verdict.specs.declared.Reason.TheVariants as Reason
 
 -- ---- the judgement
 -- a power of two from 4 to 256
@@ -34,50 +33,50 @@ stop_taken passband stopband = finite stopband && (lt passband stopband && le st
 unfoldable pub attenuation_taken : Float → Bool
 attenuation_taken a = le (whole 20) a && le a (whole 120)
 
-unfoldable pub edges_of : Float → Float → Float → Verdict
+unfoldable pub edges_of : Float → Float → Float → Result (Unit {0}) Refusal
 unfolding stop_taken attenuation_taken
 edges_of passband stopband a =
     cond (positive passband)
     (cond (stop_taken passband stopband)
     (cond (attenuation_taken a)
-    Verdict.Done
-    (Verdict.Refused (Refusal.Range bad_attenuation (whole 20) (whole 120) a)))
-    (Verdict.Refused (Refusal.Plain bad_frequency)))
-    (Verdict.Refused (Refusal.Plain bad_frequency))
+    (Ok tt)
+    (Err (Refusal.Range Reason.Attenuation (whole 20) (whole 120) a)))
+    (Err (Refusal.Plain Reason.Frequency)))
+    (Err (Refusal.Plain Reason.Frequency))
 
 -- ---- the number of taps
 unfoldable pub count_taken : Float → Bool
 count_taken num = finite num && le num (whole 16777216)
 
 -- for edges that were checked, by the estimate
-abbrev pub taps_in : Verdict → Float → Length
-taps_in Verdict.Done num = cond (count_taken num) (Length.Taps (to_unsigned 64 (ceil_of num))) (Length.Refused (Refusal.Plain bad_transition))
-taps_in (Verdict.Refused why) num = Length.Refused why
+abbrev pub taps_in : Result (Unit {0}) Refusal → Float → Result ℕ Refusal
+taps_in (Ok tt) num = cond (count_taken num) (Ok (to_unsigned 64 (ceil_of num))) (Err (Refusal.Plain Reason.Transition))
+taps_in (Err why) num = Err why
 
-unfoldable pub channelizer_taps_of : ℕ → Float → Float → Float → Length
+unfoldable pub channelizer_taps_of : ℕ → Float → Float → Float → Result ℕ Refusal
 unfolding channels_taken edges_of count_taken
 channelizer_taps_of m passband stopband a =
     cond (channels_taken m)
     (taps_in (edges_of passband stopband a) (estimate a (whole 2 ⊗ (stopband ⊖ passband) ⊘ whole m)))
-    (Length.Refused (Refusal.Plain bad_count))
+    (Err (Refusal.Plain Reason.Count))
 
 -- of a branch: taps / m, rounded up
-abbrev pub branch_of : ℕ → Length → Length
-branch_of m (Length.Taps n) = Length.Taps (upward n m)
-branch_of m (Length.Refused why) = Length.Refused why
+abbrev pub branch_of : ℕ → Result ℕ Refusal → Result ℕ Refusal
+branch_of m (Ok n) = Ok (upward n m)
+branch_of m (Err why) = Err why
 
 -- ---- the prototype
 -- a ticket is accepted where the answer is `Ready`
-unfoldable pub channelizer_lowpass_of : ℕ → ℕ → Float → Float → Float → Designed
+unfoldable pub channelizer_lowpass_of : ℕ → ℕ → Float → Float → Float → Result Lowpass Refusal
 unfolding channels_taken branch_taken edges_of
 channelizer_lowpass_of m l passband stopband a =
     cond (channels_taken m)
     (cond (branch_taken l)
     (where_passed (edges_of passband stopband a) (lowpass_of ((passband ⊕ stopband) ⊘ (whole 2 ⊗ whole m)) (whole 1) (Kaiser (beta_of a)) (m * l)))
-    (Designed.Refused (Refusal.Plain bad_count)))
-    (Designed.Refused (Refusal.Plain bad_count))
+    (Err (Refusal.Plain Reason.Count)))
+    (Err (Refusal.Plain Reason.Count))
 
 -- for a buffer of len elements, tested last
-abbrev pub fitted_of : Designed → ℕ → Designed
-fitted_of (Designed.Ready l) len = cond (l.n == len) (Designed.Ready l) (Designed.Refused (Refusal.Length l.n len))
-fitted_of (Designed.Refused why) len = Designed.Refused why
+abbrev pub fitted_of : Result Lowpass Refusal → ℕ → Result Lowpass Refusal
+fitted_of (Ok l) len = cond (l.n == len) (Ok l) (Err (Refusal.Length l.n len))
+fitted_of (Err why) len = Err why

@@ -1,25 +1,22 @@
 -- Each outcome of the judgement of a channelizer's prototype, from what the tests said, and what an accepted ticket
 -- tells. Assumes nothing.
-use Rattle.std.specs.Prelude.{◌≡◌, ℕ, ◌+◌, ◌-◌, ◌*◌, ◌/◌, ◌%◌, ◌<◌, ◌≤◌, Bool, true, false, cond, ◌||◌, List, ◌==◌, ◌≢◌, nat_eq, nat_le, Float}
+use Rattle.std.specs.Prelude.{◌≡◌, ℕ, ◌+◌, ◌-◌, ◌*◌, ◌/◌, ◌%◌, ◌<◌, ◌≤◌, Bool, true, false, cond, ◌||◌, List, ◌==◌, ◌≢◌, nat_eq, nat_le, Float, Err, Ok, Result}
 use Rattle.std.proofs.Math.Path.{refl}
 use Rattle.std.proofs.Common.{sym, ap, ◌∙◌, subst, true≢false, le_trans, mul-le-mul_left, mul-le-mul_right, div-add-mod', mod-lt, arith, leb-true, eqb-true, eq-eqb, lit≤}
 use Rattle.std.proofs.Math.Arith.{digits_div}
 use Rattle.laws.specs.Binary64.{◌⊕◌, ◌⊖◌, ◌⊗◌, ◌⊘◌, whole}
 use Rattle.laws.specs.Floor.{upward}
 use Rattle.laws.specs.Tests.{both}
-use Rattle.verdict.specs.Numbers.{bad_count}
 use Rattle.verdict.specs.declared.Refusal.{Refusal}
 use Rattle.fir_length.specs.Kaiser.{beta_of, estimate}
-use Rattle.verdict.specs.declared.Length.{Length}
 use Rattle.fir_lowpass.specs.Lowpass.{where_passed, lowpass_of, outcome_of}
 use Rattle.fir_lowpass.proofs.LowpassLaws.{never, prepares_as}
 use Rattle.fir_lowpass.specs.Cached.{PreparesLowpass}
 use Rattle.fir_sinc.specs.declared.window.Window.TheVariants.{Kaiser}
 use Rattle.fir_lowpass.specs.declared.lowpass.Lowpass.{Lowpass}
-use Rattle.fir_lowpass.specs.declared.lowpass.Designed.{Designed}
 use Rattle.fir_channelizer.specs.Channelizer.{channels_taken, branch_taken, edges_of, taps_in, channelizer_taps_of, channelizer_lowpass_of, fitted_of}
-use Rattle.verdict.specs.declared.Verdict.{Verdict}
 use Rattle.verdict.specs.Counted.{Counted, where_equal, fitted}
+use Rattle.verdict.specs.declared.Reason.TheVariants as Reason
 
 -- ---- the numbers that are taken
 -- a number of channels: 4 to 256
@@ -57,21 +54,21 @@ module _ (m : ℕ) (passband stopband a : Float) where
   unfolding channelizer_taps_of
   taps_by_edges b = rw b
 
-  pub taps_no_channels : channels_taken m ≡ false → channelizer_taps_of m passband stopband a ≡ Length.Refused (Refusal.Plain bad_count)
+  pub taps_no_channels : channels_taken m ≡ false → channelizer_taps_of m passband stopband a ≡ Err (Refusal.Plain Reason.Count)
   unfolding channelizer_taps_of
   taps_no_channels b = rw b
 
   -- where there are taps the channels were taken
-  pub taps_channels : (n : ℕ) → channelizer_taps_of m passband stopband a ≡ Length.Taps n → channels_taken m ≡ true
+  pub taps_channels : (n : ℕ) → channelizer_taps_of m passband stopband a ≡ Ok n → channels_taken m ≡ true
   unfolding channelizer_taps_of
   taps_channels n e = go (channels_taken m) e
     where
-      go : (b : Bool) → cond b (taps_in (edges_of passband stopband a) (estimate a (whole 2 ⊗ (stopband ⊖ passband) ⊘ whole m))) (Length.Refused (Refusal.Plain bad_count)) ≡ Length.Taps n → b ≡ true
+      go : (b : Bool) → cond b (taps_in (edges_of passband stopband a) (estimate a (whole 2 ⊗ (stopband ⊖ passband) ⊘ whole m))) (Err (Refusal.Plain Reason.Count)) ≡ Ok n → b ≡ true
       go true e = refl
       go false e = let z : ◌≡◌ {A = ℕ} 0 1 = cc in absurd (omega arith)
 
 -- the low-pass that a prototype is
-abbrev pub prototype_of : ℕ → ℕ → Float → Float → Float → Designed
+abbrev pub prototype_of : ℕ → ℕ → Float → Float → Float → Result Lowpass Refusal
 prototype_of m l passband stopband a = lowpass_of ((passband ⊕ stopband) ⊘ (whole 2 ⊗ whole m)) (whole 1) (Kaiser (beta_of a)) (m * l)
 
 module _ (m l : ℕ) (passband stopband a : Float) where
@@ -80,11 +77,11 @@ module _ (m l : ℕ) (passband stopband a : Float) where
     unfolding channelizer_lowpass_of
     by_edges c = rw (b, c)
 
-    pub no_branch : branch_taken l ≡ false → channelizer_lowpass_of m l passband stopband a ≡ Designed.Refused (Refusal.Plain bad_count)
+    pub no_branch : branch_taken l ≡ false → channelizer_lowpass_of m l passband stopband a ≡ Err (Refusal.Plain Reason.Count)
     unfolding channelizer_lowpass_of
     no_branch c = rw (b, c)
 
-  pub no_channels : channels_taken m ≡ false → channelizer_lowpass_of m l passband stopband a ≡ Designed.Refused (Refusal.Plain bad_count)
+  pub no_channels : channels_taken m ≡ false → channelizer_lowpass_of m l passband stopband a ≡ Err (Refusal.Plain Reason.Count)
   unfolding channelizer_lowpass_of
   no_channels b = rw b
 
@@ -111,40 +108,40 @@ module _ (n m : ℕ) (h : 4 ≤ m) where
       omega arith
 
 -- ---- for a buffer of len elements
-pub fits_as : {d r : Designed} {rs : List Float} {l : Lowpass} {len : ℕ} → r ≡ Designed.Ready l → l.n ≡ len → PreparesLowpass d r rs → PreparesLowpass (fitted_of d len) (Designed.Ready l) rs
+pub fits_as : {d r : Result Lowpass Refusal} {rs : List Float} {l : Lowpass} {len : ℕ} → r ≡ Ok l → l.n ≡ len → PreparesLowpass d r rs → PreparesLowpass (fitted_of d len) (Ok l) rs
 fits_as {d} {r} {rs} {l} {len} e h f =
-    let g : d ≡ Designed.Ready l = sym f.is ∙ e in
-    subst (λ (z : Designed). PreparesLowpass (fitted_of d len) z rs) e (prepares_as (g ∙ sym (ap (λ (z : Designed). fitted_of z len) g ∙ rw (eq-eqb l.n len h))) f)
+    let g : d ≡ Ok l = sym f.is ∙ e in
+    subst (λ (z : Result Lowpass Refusal). PreparesLowpass (fitted_of d len) z rs) e (prepares_as (g ∙ sym (ap (λ (z : Result Lowpass Refusal). fitted_of z len) g ∙ rw (eq-eqb l.n len h))) f)
 
 -- ---- what an accepted ticket tells
-pub accepted : (m l : ℕ) (passband stopband a : Float) (d : Lowpass) → channelizer_lowpass_of m l passband stopband a ≡ Designed.Ready d → lowpass_of ((passband ⊕ stopband) ⊘ (whole 2 ⊗ whole m)) (whole 1) (Kaiser (beta_of a)) (m * l) ≡ Designed.Ready d
+pub accepted : (m l : ℕ) (passband stopband a : Float) (d : Lowpass) → channelizer_lowpass_of m l passband stopband a ≡ Ok d → lowpass_of ((passband ⊕ stopband) ⊘ (whole 2 ⊗ whole m)) (whole 1) (Kaiser (beta_of a)) (m * l) ≡ Ok d
 unfolding channelizer_lowpass_of
 accepted m l passband stopband a d e = go (channels_taken m) (branch_taken l) (edges_of passband stopband a) (prototype_of m l passband stopband a) e
   where
-    go : (b c : Bool) (k : Verdict) (p : Designed) → cond b (cond c (where_passed k p) (Designed.Refused (Refusal.Plain bad_count))) (Designed.Refused (Refusal.Plain bad_count)) ≡ Designed.Ready d → p ≡ Designed.Ready d
-    go true true Verdict.Done p e = e
-    go true true (Verdict.Refused why) p e = absurd (never why d e)
-    go true false k p e = absurd (never (Refusal.Plain bad_count) d e)
-    go false c k p e = absurd (never (Refusal.Plain bad_count) d e)
+    go : (b c : Bool) (k : Result (Unit {0}) Refusal) (p : Result Lowpass Refusal) → cond b (cond c (where_passed k p) (Err (Refusal.Plain Reason.Count))) (Err (Refusal.Plain Reason.Count)) ≡ Ok d → p ≡ Ok d
+    go true true (Ok tt) p e = e
+    go true true (Err why) p e = absurd (never why d e)
+    go true false k p e = absurd (never (Refusal.Plain Reason.Count) d e)
+    go false c k p e = absurd (never (Refusal.Plain Reason.Count) d e)
 
 -- and one for a buffer: the design is accepted without the buffer too, and has as many taps as that has elements
-fitted_is : (g : Designed) (len : ℕ) (d : Lowpass) → fitted_of g len ≡ Designed.Ready d → (g ≡ Designed.Ready d) × (d.n ≡ len)
-fitted_is (Designed.Refused why) len d e = absurd (never why d e)
-fitted_is (Designed.Ready g) len d e = fitted Designed.Ready (λ (l : Lowpass). l.n) (Designed.Refused (Refusal.Length g.n len)) len g d same (never (Refusal.Length g.n len) d) e
+fitted_is : (g : Result Lowpass Refusal) (len : ℕ) (d : Lowpass) → fitted_of g len ≡ Ok d → (g ≡ Ok d) × (d.n ≡ len)
+fitted_is (Err why) len d e = absurd (never why d e)
+fitted_is (Ok g) len d e = fitted Ok (λ (l : Lowpass). l.n) (Err (Refusal.Length g.n len)) len g d same (never (Refusal.Length g.n len) d) e
   where
-    same : (x y : Lowpass) → Designed.Ready x ≡ Designed.Ready y → x ≡ y
+    same : (x y : Lowpass) → Ok x ≡ Ok y → x ≡ y
     same x y e = cc
 
 pub record Fitted (m l : ℕ) (passband stopband a : Float) (len : ℕ) (d : Lowpass) : Type 0 where
-  pub is : lowpass_of ((passband ⊕ stopband) ⊘ (whole 2 ⊗ whole m)) (whole 1) (Kaiser (beta_of a)) (m * l) ≡ Designed.Ready d
+  pub is : lowpass_of ((passband ⊕ stopband) ⊘ (whole 2 ⊗ whole m)) (whole 1) (Kaiser (beta_of a)) (m * l) ≡ Ok d
   pub long : d.n ≡ len
 
-pub fitted_accepted : (m l : ℕ) (passband stopband a : Float) (len : ℕ) (d : Lowpass) → fitted_of (channelizer_lowpass_of m l passband stopband a) len ≡ Designed.Ready d → Fitted m l passband stopband a len d
+pub fitted_accepted : (m l : ℕ) (passband stopband a : Float) (len : ℕ) (d : Lowpass) → fitted_of (channelizer_lowpass_of m l passband stopband a) len ≡ Ok d → Fitted m l passband stopband a len d
 fitted_accepted m l passband stopband a len d e =
     let f = fitted_is (channelizer_lowpass_of m l passband stopband a) len d e in
     record { is = accepted m l passband stopband a d f.0; long = f.1 }
 
 -- so an accepted one has as many taps as its buffer has elements
-pub channelizer_count : (d : Designed) (len : ℕ) → Counted len (outcome_of (fitted_of d len))
-channelizer_count (Designed.Ready l) len = where_equal outcome_of len _ _ l.n len (λ e. e) tt
-channelizer_count (Designed.Refused why) len = tt
+pub channelizer_count : (d : Result Lowpass Refusal) (len : ℕ) → Counted len (outcome_of (fitted_of d len))
+channelizer_count (Ok l) len = where_equal outcome_of len _ _ l.n len (λ e. e) tt
+channelizer_count (Err why) len = tt

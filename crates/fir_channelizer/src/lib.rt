@@ -5,11 +5,8 @@ ghost use Rattle.std.specs.Prelude.{◌≡◌, length};
 ghost use Rattle.fir_lowpass.specs.Cached.{PreparesLowpass};
 ghost use Rattle.fir_channelizer.specs.Channelizer.{channels_taken, branch_taken, stop_taken, attenuation_taken, edges_of, count_taken, channelizer_taps_of, branch_of, channelizer_lowpass_of, fitted_of};
 
-use fir_lowpass::lowpass::Designed;
 use fir_sinc::window::Window;
-use verdict::{
-    BAD_ATTENUATION, BAD_COUNT, BAD_FREQUENCY, BAD_TRANSITION, Length, Refusal, Verdict,
-};
+use verdict::{Reason, Refusal};
 
 // Whether a channelizer has so many channels: a power of two from 4 to 256.
 fn takes_channels(channels: u64) -> bool
@@ -50,19 +47,19 @@ fn takes_attenuation(attenuation: f64) -> bool
 
 // The band edges, in channel spacings, and the attenuation in dB: 2 a passband that isn't finite and positive; 2 a
 // stopband that isn't above it and at most 1.5; 4 with 20, 120, attenuation.
-fn check_edges(passband: f64, stopband: f64, attenuation: f64) -> Verdict
+fn check_edges(passband: f64, stopband: f64, attenuation: f64) -> Result<(), Refusal>
     ensures { result ≡ edges_of passband stopband attenuation }
 {
     if !math_numbers::is_positive(passband) {
-        return Verdict::Refused(Refusal::Plain(BAD_FREQUENCY));
+        return Err(Refusal::Plain(Reason::Frequency));
     }
     if !takes_stopband(passband, stopband) {
-        return Verdict::Refused(Refusal::Plain(BAD_FREQUENCY));
+        return Err(Refusal::Plain(Reason::Frequency));
     }
     if !takes_attenuation(attenuation) {
-        return Verdict::Refused(Refusal::Range(BAD_ATTENUATION, 20.0, 120.0, attenuation));
+        return Err(Refusal::Range(Reason::Attenuation, 20.0, 120.0, attenuation));
     }
-    Verdict::Done
+    Ok(())
 }
 
 // Whether an estimate is a number of taps: finite and at most 2^24.
@@ -74,24 +71,24 @@ fn takes_estimate(num: f64) -> bool
 
 // How many taps Kaiser's estimate has for these edges, not made odd. Refused, in this order: 6 the channels; 2, 2, 4 as
 // the edges; 3 where the estimate isn't finite or is above 2^24. Example: 16 channels, 0.5, 1, 60 dB: 118.
-pub fn channelizer_taps(channels: u64, passband: f64, stopband: f64, attenuation: f64) -> Length
+pub fn channelizer_taps(channels: u64, passband: f64, stopband: f64, attenuation: f64) -> Result<u64, Refusal>
     ensures { result ≡ channelizer_taps_of channels passband stopband attenuation }
 {
     if !takes_channels(channels) {
-        return Length::Refused(Refusal::Plain(BAD_COUNT));
+        return Err(Refusal::Plain(Reason::Count));
     }
     let checked = check_edges(passband, stopband, attenuation);
     match checked {
-        Verdict::Done => {
+        Ok(()) => {
             let width = 2.0 * (stopband - passband) / std::num::nearest_u64_to_f64(channels);
             let num = fir_length::order::taps_estimate(attenuation, width);
             if takes_estimate(num) {
-                Length::Taps(math_numbers::to_count(math_round::ceil::ceil(num)))
+                Ok(math_numbers::to_count(math_round::ceil::ceil(num)))
             } else {
-                Length::Refused(Refusal::Plain(BAD_TRANSITION))
+                Err(Refusal::Plain(Reason::Transition))
             }
         }
-        Verdict::Refused(why) => Length::Refused(why),
+        Err(why) => Err(why),
     }
 }
 
@@ -102,19 +99,19 @@ pub fn channelizer_taps_per_branch(
     passband: f64,
     stopband: f64,
     attenuation: f64,
-) -> Length
+) -> Result<u64, Refusal>
     ensures { result ≡ branch_of channels (channelizer_taps_of channels passband stopband attenuation) }
 {
     let length = channelizer_taps(channels, passband, stopband, attenuation);
     match length {
-        Length::Taps(n) => {
+        Ok(n) => {
             if n % channels == 0 {
-                Length::Taps(n / channels)
+                Ok(n / channels)
             } else {
-                Length::Taps(n / channels + 1)
+                Ok(n / channels + 1)
             }
         }
-        Length::Refused(why) => Length::Refused(why),
+        Err(why) => Err(why),
     }
 }
 
@@ -128,18 +125,18 @@ pub fn prepare(
     stopband: f64,
     attenuation: f64,
     raws: &mut [f64],
-) -> Designed
+) -> Result<Lowpass, Refusal>
     ensures { PreparesLowpass (channelizer_lowpass_of channels branch passband stopband attenuation) result raws.new }
 {
     if !takes_channels(channels) {
-        return Designed::Refused(Refusal::Plain(BAD_COUNT));
+        return Err(Refusal::Plain(Reason::Count));
     }
     if !takes_branch(branch) {
-        return Designed::Refused(Refusal::Plain(BAD_COUNT));
+        return Err(Refusal::Plain(Reason::Count));
     }
     let checked = check_edges(passband, stopband, attenuation);
     match checked {
-        Verdict::Done => {
+        Ok(()) => {
             let cutoff = (passband + stopband) / (2.0 * std::num::nearest_u64_to_f64(channels));
             let beta = fir_length::beta::kaiser_beta(attenuation);
             fir_lowpass::lowpass::prepare(
@@ -150,7 +147,7 @@ pub fn prepare(
                 &mut *raws,
             )
         }
-        Verdict::Refused(why) => Designed::Refused(why),
+        Err(why) => Err(why),
     }
 }
 
@@ -161,7 +158,7 @@ pub fn channelizer_lowpass(
     passband: f64,
     stopband: f64,
     attenuation: f64,
-) -> Designed
+) -> Result<Lowpass, Refusal>
     ensures { result ≡ channelizer_lowpass_of channels branch passband stopband attenuation }
 {
     let mut none = [0.0f64; 1];
@@ -177,7 +174,7 @@ pub fn fitted(
     attenuation: f64,
     len: u64,
     raws: &mut [f64],
-) -> Designed
+) -> Result<Lowpass, Refusal>
     ensures { PreparesLowpass (fitted_of (channelizer_lowpass_of channels branch passband stopband attenuation) len) result raws.new }
 {
     let designed = prepare(
@@ -189,14 +186,14 @@ pub fn fitted(
         &mut *raws,
     );
     match designed {
-        Designed::Ready(lp) => {
+        Ok(lp) => {
             let n = lp.n;
             if n == len {
-                Designed::Ready(lp)
+                Ok(lp)
             } else {
-                Designed::Refused(Refusal::Length(n, len))
+                Err(Refusal::Length(n, len))
             }
         }
-        Designed::Refused(why) => Designed::Refused(why),
+        Err(why) => Err(why),
     }
 }

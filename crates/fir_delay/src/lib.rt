@@ -4,21 +4,14 @@
 ghost use Rattle.std.specs.Prelude.{◌≡◌};
 ghost use Rattle.fir_delay.specs.Delay.{delay_of};
 
-use verdict::{BAD_COUNT, Refusal};
-
-// A number of half samples, or why not.
-#[derive(Clone, Copy)]
-pub enum Delayed {
-    HalfSamples(u64),
-    Refused(Refusal),
-}
+use verdict::{Reason, Refusal};
 
 // The half samples that n taps delay by: n − 1 of them; 6 for 0 taps. Example: 128 taps delay by 127.
-pub fn delay(n: u64) -> Delayed
+pub fn delay(n: u64) -> Result<u64, Refusal>
     ensures { result ≡ delay_of n }
 {
     if n == 0 {
-        return Delayed::Refused(Refusal::Plain(BAD_COUNT));
+        return Err(Refusal::Plain(Reason::Count));
     }
-    Delayed::HalfSamples(n - 1)
+    Ok(n - 1)
 }

@@ -1,18 +1,17 @@
 -- The Gaussian pulse of GFSK and GMSK, span · sps + 1 taps. Definitions only.
 --   h[i] = exp(−a x²),  a = 2 π² bt² / ln 2,  x = (i − (n − 1)/2) / sps;  tap i is h[i] / Σ h
-use Rattle.std.specs.Prelude.{◌≡◌, ℕ, ◌+◌, ◌-◌, ◌*◌, ◌/◌, Bool, cond, ◌&&◌, List, ◌==◌, nat_le, nat_lt, Float}
+use Rattle.std.specs.Prelude.{◌≡◌, ℕ, ◌+◌, ◌-◌, ◌*◌, ◌/◌, Bool, cond, ◌&&◌, List, ◌==◌, nat_le, nat_lt, Float, Err, Ok, Result}
 use Rattle.std.specs.Float.{binary64}
 use Rattle.std.specs.Float.Ieee.{le, neg}
 use Rattle.laws.specs.Binary64.{◌⊖◌, ◌⊗◌, ◌⊘◌, whole, fraction, pi, ln2}
 use Rattle.laws.specs.Sums.{sum_to}
 use Rattle.math_exp.specs.Exp.{exp_of}
-use Rattle.verdict.specs.Numbers.{bad_shape, bad_count}
 use Rattle.verdict.specs.declared.Refusal.TheVariants.{Range, Length}
 use Rattle.fir_cache.specs.Cached.{CachesOf}
 use Rattle.verdict.specs.Outcome.{Outcome}
 use Rattle.fir_gaussian.specs.declared.gaussian_design.Gaussian.{Gaussian}
-use Rattle.fir_gaussian.specs.declared.gaussian_design.GaussianDesigned.{GaussianDesigned}
-use Rattle.fir_gaussian.specs.declared.gaussian_design.GaussianDesigned.TheVariants.{Ready, Refused}
+use Rattle.verdict.specs.declared.Refusal.{Refusal}
+use Rattle.verdict.specs.declared.Reason.TheVariants as Reason
 
 -- ---- the raw taps
 unfoldable pub exponent : Float → Float
@@ -37,22 +36,22 @@ unfolding exponent raw_at
 made_of bt sps n = let mid = whole (n - 1) ⊘ whole 2 in record { a = exponent bt; sps = whole sps; mid = mid; n = n; sum = sum_to binary64 (raw_at (exponent bt) (whole sps) mid) n }
 
 -- a ticket is accepted where the answer is `Ready`
-unfoldable pub gaussian_of : Float → ℕ → ℕ → GaussianDesigned
+unfoldable pub gaussian_of : Float → ℕ → ℕ → Result Gaussian Refusal
 unfolding made_of bt_taken span_taken samples_taken
 gaussian_of bt sps span =
     let most = 16777215 / span in
     cond (bt_taken bt)
     (cond (span_taken span)
     (cond (samples_taken sps most)
-    (Ready (made_of bt sps (span * sps + 1)))
-    (Refused (Range bad_count (whole 2) (whole most) (whole sps))))
-    (Refused (Range bad_count (whole 2) (whole 8) (whole span))))
-    (Refused (Range bad_shape (fraction 2 10) (whole 1) bt))
+    (Ok (made_of bt sps (span * sps + 1)))
+    (Err (Range Reason.Count (whole 2) (whole most) (whole sps))))
+    (Err (Range Reason.Count (whole 2) (whole 8) (whole span))))
+    (Err (Range Reason.Shape (fraction 2 10) (whole 1) bt))
 
 -- for a buffer of len elements
-abbrev pub fitted_of : GaussianDesigned → ℕ → GaussianDesigned
-fitted_of (Ready g) len = cond (g.n == len) (Ready g) (Refused (Length g.n len))
-fitted_of (Refused why) len = Refused why
+abbrev pub fitted_of : Result Gaussian Refusal → ℕ → Result Gaussian Refusal
+fitted_of (Ok g) len = cond (g.n == len) (Ok g) (Err (Length g.n len))
+fitted_of (Err why) len = Err why
 
 -- ---- the taps
 -- tap i of a design; 0 past the last one, and for a record that no design gives
@@ -66,11 +65,11 @@ abbrev pub Caches : Gaussian → List Float → Type 0
 Caches g rs = CachesOf (raw_at g.a g.sps g.mid) g.n rs
 
 -- an answer that is the design d, and a list that keeps its first raw taps
-pub record PreparesGaussian (d r : GaussianDesigned) (rs : List Float) : Type 0 where
+pub record PreparesGaussian (d r : Result Gaussian Refusal) (rs : List Float) : Type 0 where
   pub is : r ≡ d
-  pub raws : (g : Gaussian) → r ≡ Ready g → Caches g rs
+  pub raws : (g : Gaussian) → r ≡ Ok g → Caches g rs
 
 -- ---- what comes of a ticket
-abbrev pub outcome_of : GaussianDesigned → Outcome
-outcome_of (Ready g) = Outcome.Designed g.n g.sum (tap_of g)
-outcome_of (Refused why) = Outcome.Refused why
+abbrev pub outcome_of : Result Gaussian Refusal → Outcome
+outcome_of (Ok g) = Outcome.Designed g.n g.sum (tap_of g)
+outcome_of (Err why) = Outcome.Refused why

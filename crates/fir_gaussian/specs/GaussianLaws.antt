@@ -1,19 +1,17 @@
 -- Each outcome of the judgement of a Gaussian pulse, from what the tests said, and what an accepted ticket tells.
 -- Assumes nothing.
-use Rattle.std.specs.Prelude.{◌≡◌, ℕ, ◌+◌, ◌-◌, ◌*◌, ◌/◌, ◌<◌, ◌≤◌, Bool, true, false, cond, List, length, ◌≢◌, nat_le, slice_index_or, refl, Float}
+use Rattle.std.specs.Prelude.{◌≡◌, ℕ, ◌+◌, ◌-◌, ◌*◌, ◌/◌, ◌<◌, ◌≤◌, Bool, true, false, cond, List, length, ◌≢◌, nat_le, slice_index_or, refl, Float, Err, Ok, Result}
 use Rattle.std.proofs.Common.{sym, ap, ◌∙◌, subst, le_trans, le_of_eq, mul_comm, le-div_iff_mul-le, arith, leb-true, lt-ltb, le-ltb}
 use Rattle.std.specs.Float.{nan}
 use Rattle.laws.specs.Binary64.{◌⊘◌, whole, fraction}
 use Rattle.laws.specs.Tests.{both}
 use Rattle.fir_cache.specs.Cached.{SumCached}
-use Rattle.verdict.specs.Numbers.{bad_shape, bad_count}
 use Rattle.verdict.specs.declared.Refusal.{Refusal}
 use Rattle.verdict.specs.declared.Refusal.TheVariants.{Range, Length}
 use Rattle.fir_gaussian.specs.Gaussian.{exponent, raw_at, bt_taken, span_taken, samples_taken, made_of, gaussian_of, fitted_of, tap_of, Caches, PreparesGaussian, outcome_of}
 use Rattle.fir_gaussian.specs.declared.gaussian_design.Gaussian.{Gaussian}
-use Rattle.fir_gaussian.specs.declared.gaussian_design.GaussianDesigned.{GaussianDesigned}
-use Rattle.fir_gaussian.specs.declared.gaussian_design.GaussianDesigned.TheVariants.{Ready, Refused}
 use Rattle.verdict.specs.Counted.{Counted, where_equal, fitted}
+use Rattle.verdict.specs.declared.Reason.TheVariants as Reason
 
 -- ---- the numbers that are taken
 pub span_least : (span : ℕ) → span_taken span ≡ true → 2 ≤ span
@@ -34,25 +32,25 @@ product_most span sps a b =
 module _ (bt : Float) (sps span : ℕ) where
   module _ (a : bt_taken bt ≡ true) where
     module _ (b : span_taken span ≡ true) where
-      pub ready : samples_taken sps (16777215 / span) ≡ true → gaussian_of bt sps span ≡ Ready (made_of bt sps (span * sps + 1))
+      pub ready : samples_taken sps (16777215 / span) ≡ true → gaussian_of bt sps span ≡ Ok (made_of bt sps (span * sps + 1))
       unfolding gaussian_of
       ready c = rw (a, b, c)
 
-      pub no_samples : samples_taken sps (16777215 / span) ≡ false → gaussian_of bt sps span ≡ Refused (Range bad_count (whole 2) (whole (16777215 / span)) (whole sps))
+      pub no_samples : samples_taken sps (16777215 / span) ≡ false → gaussian_of bt sps span ≡ Err (Range Reason.Count (whole 2) (whole (16777215 / span)) (whole sps))
       unfolding gaussian_of
       no_samples c = rw (a, b, c)
 
-    pub no_span : span_taken span ≡ false → gaussian_of bt sps span ≡ Refused (Range bad_count (whole 2) (whole 8) (whole span))
+    pub no_span : span_taken span ≡ false → gaussian_of bt sps span ≡ Err (Range Reason.Count (whole 2) (whole 8) (whole span))
     unfolding gaussian_of
     no_span b = rw (a, b)
 
-  pub no_bt : bt_taken bt ≡ false → gaussian_of bt sps span ≡ Refused (Range bad_shape (fraction 2 10) (whole 1) bt)
+  pub no_bt : bt_taken bt ≡ false → gaussian_of bt sps span ≡ Err (Range Reason.Shape (fraction 2 10) (whole 1) bt)
   unfolding gaussian_of
   no_bt a = rw a
 
 -- ---- what an accepted ticket tells
 -- a refusal is no design
-never : (why : Refusal) (g : Gaussian) → Refused why ≢ Ready g
+never : (why : Refusal) (g : Gaussian) → Err why ≢ Ok g
 never why g e = let z : ◌≡◌ {A = ℕ} 0 1 = cc in omega arith
 
 pub record AcceptedGaussian (bt : Float) (sps span : ℕ) (g : Gaussian) : Type 0 where
@@ -60,7 +58,7 @@ pub record AcceptedGaussian (bt : Float) (sps span : ℕ) (g : Gaussian) : Type 
   pub some : 0 < span * sps + 1
   pub most : span * sps + 1 ≤ 16777216
 
-pub accepted : (bt : Float) (sps span : ℕ) (g : Gaussian) → gaussian_of bt sps span ≡ Ready g → AcceptedGaussian bt sps span g
+pub accepted : (bt : Float) (sps span : ℕ) (g : Gaussian) → gaussian_of bt sps span ≡ Ok g → AcceptedGaussian bt sps span g
 unfolding gaussian_of
 accepted bt sps span g e = go (bt_taken bt) (span_taken span) (samples_taken sps (16777215 / span)) (product_most span sps) e
   where
@@ -68,38 +66,38 @@ accepted bt sps span g e = go (bt_taken bt) (span_taken span) (samples_taken sps
     few k h = (omega arith, omega arith)
 
     go : (a b c : Bool) → (b ≡ true → c ≡ true → span * sps ≤ 16777215)
-        → cond a (cond b (cond c (Ready (made_of bt sps (span * sps + 1))) (Refused (Range bad_count (whole 2) (whole (16777215 / span)) (whole sps)))) (Refused (Range bad_count (whole 2) (whole 8) (whole span)))) (Refused (Range bad_shape (fraction 2 10) (whole 1) bt)) ≡ Ready g
+        → cond a (cond b (cond c (Ok (made_of bt sps (span * sps + 1))) (Err (Range Reason.Count (whole 2) (whole (16777215 / span)) (whole sps)))) (Err (Range Reason.Count (whole 2) (whole 8) (whole span)))) (Err (Range Reason.Shape (fraction 2 10) (whole 1) bt)) ≡ Ok g
         → AcceptedGaussian bt sps span g
     go true true true k e = let t = few (span * sps) (k refl refl) in record { is = cc; some = t.0; most = t.1 }
-    go true true false k e = absurd (never (Range bad_count (whole 2) (whole (16777215 / span)) (whole sps)) g e)
-    go true false c k e = absurd (never (Range bad_count (whole 2) (whole 8) (whole span)) g e)
-    go false b c k e = absurd (never (Range bad_shape (fraction 2 10) (whole 1) bt) g e)
+    go true true false k e = absurd (never (Range Reason.Count (whole 2) (whole (16777215 / span)) (whole sps)) g e)
+    go true false c k e = absurd (never (Range Reason.Count (whole 2) (whole 8) (whole span)) g e)
+    go false b c k e = absurd (never (Range Reason.Shape (fraction 2 10) (whole 1) bt) g e)
 
-same_record : (x y : Gaussian) → Ready x ≡ Ready y → x ≡ y
+same_record : (x y : Gaussian) → Ok x ≡ Ok y → x ≡ y
 same_record x y e = cc
 
 -- and one for a buffer: the design is accepted without the buffer too, and has as many taps as that has elements
-pub fitted_is : (d : GaussianDesigned) (len : ℕ) (g : Gaussian) → fitted_of d len ≡ Ready g → (d ≡ Ready g) × (g.n ≡ len)
-fitted_is (Refused why) len g e = absurd (never why g e)
-fitted_is (Ready d) len g e = fitted Ready (λ (x : Gaussian). x.n) (Refused (Length d.n len)) len d g same_record (never (Length d.n len) g) e
+pub fitted_is : (d : Result Gaussian Refusal) (len : ℕ) (g : Gaussian) → fitted_of d len ≡ Ok g → (d ≡ Ok g) × (g.n ≡ len)
+fitted_is (Err why) len g e = absurd (never why g e)
+fitted_is (Ok d) len g e = fitted Ok (λ (x : Gaussian). x.n) (Err (Length d.n len)) len d g same_record (never (Length d.n len) g) e
 
 -- ---- answers with what was kept
-pub refuses : (d : GaussianDesigned) (rs : List Float) (why : Refusal) → d ≡ Refused why → PreparesGaussian d (Refused why) rs
+pub refuses : (d : Result Gaussian Refusal) (rs : List Float) (why : Refusal) → d ≡ Err why → PreparesGaussian d (Err why) rs
 refuses d rs why h = record { is = sym h; raws = λ g e. absurd (never why g e) }
 
-pub accepts : (bt : Float) (sps n : ℕ) (s : Float) (rs : List Float) (d : GaussianDesigned) → d ≡ Ready (made_of bt sps n)
+pub accepts : (bt : Float) (sps n : ℕ) (s : Float) (rs : List Float) (d : Result Gaussian Refusal) → d ≡ Ok (made_of bt sps n)
     → SumCached (raw_at (exponent bt) (whole sps) (whole (n - 1) ⊘ whole 2)) n s rs
-    → PreparesGaussian d (Ready (record { a = exponent bt; sps = whole sps; mid = whole (n - 1) ⊘ whole 2; n = n; sum = s })) rs
+    → PreparesGaussian d (Ok (record { a = exponent bt; sps = whole sps; mid = whole (n - 1) ⊘ whole 2; n = n; sum = s })) rs
 unfolding made_of
 accepts bt sps n s rs d h t =
     let made : Float → Gaussian = λ z. record { a = exponent bt; sps = whole sps; mid = whole (n - 1) ⊘ whole 2; n = n; sum = z } in
     record {
-      is = ap (λ (z : Float). Ready (record { a = exponent bt; sps = whole sps; mid = whole (n - 1) ⊘ whole 2; n = n; sum = z })) t.is ∙ sym h;
+      is = ap (λ (z : Float). Ok (record { a = exponent bt; sps = whole sps; mid = whole (n - 1) ⊘ whole 2; n = n; sum = z })) t.is ∙ sym h;
       raws = λ g e. subst (λ (z : Gaussian). Caches z rs) (same_record (made s) g e) t.keeps;
     }
 
 -- a design that was prepared, by another name
-pub keeps_as : (d e : GaussianDesigned) (g : Gaussian) {r : GaussianDesigned} {rs : List Float} → PreparesGaussian d r rs → r ≡ Ready g → e ≡ Ready g → PreparesGaussian e (Ready g) rs
+pub keeps_as : (d e : Result Gaussian Refusal) (g : Gaussian) {r : Result Gaussian Refusal} {rs : List Float} → PreparesGaussian d r rs → r ≡ Ok g → e ≡ Ok g → PreparesGaussian e (Ok g) rs
 keeps_as d e g {r} p h k = record { is = sym k; raws = λ x q. p.raws x (h ∙ q) }
 
 -- a tap from a raw tap that was kept
@@ -108,6 +106,6 @@ unfolding tap_of
 cached_is g rs i h b m k = ap (λ (z : Float). z ⊘ g.sum) (k i b m) ∙ sym (rw (le-ltb 16777216 g.n h, lt-ltb i g.n b))
 
 -- ---- an accepted pulse has as many taps as its buffer has elements
-pub gaussian_count : (d : GaussianDesigned) (len : ℕ) → Counted len (outcome_of (fitted_of d len))
-gaussian_count (Ready g) len = where_equal outcome_of len _ _ g.n len (λ e. e) tt
-gaussian_count (Refused why) len = tt
+pub gaussian_count : (d : Result Gaussian Refusal) (len : ℕ) → Counted len (outcome_of (fitted_of d len))
+gaussian_count (Ok g) len = where_equal outcome_of len _ _ g.n len (λ e. e) tt
+gaussian_count (Err why) len = tt

@@ -5,7 +5,7 @@ ghost use Rattle.fir_gaussian.specs.Gaussian.{bt_taken, span_taken, samples_take
 
 use fir_cache::keep;
 use math_numbers::{PI, TAP_LIMIT};
-use verdict::{BAD_COUNT, BAD_SHAPE, Refusal};
+use verdict::{Reason, Refusal};
 
 const LN_2: f64 = 0.6931471805599453;
 
@@ -18,13 +18,6 @@ pub struct Gaussian {
     pub mid: f64,
     pub n: u64,
     pub sum: f64,
-}
-
-// A design, or why not.
-#[derive(Clone, Copy)]
-pub enum GaussianDesigned {
-    Ready(Gaussian),
-    Refused(Refusal),
 }
 
 // Whether bt is from 0.2 to 1.
@@ -78,15 +71,15 @@ fn total(a: f64, sps: f64, mid: f64, n: u64, raws: &mut [f64]) -> f64
 // taps. Refused, in this order: 5 with 0.2, 1, bt; 6 with 2, 8, span; 6 with 2, (2^24 − 1)/span rounded down, sps. The
 // span is tested before the samples, so that no product can overflow.
 // The first raw taps are left in `raws`, as many as it has places.
-pub fn prepare(bt: f64, sps: u64, span: u64, raws: &mut [f64]) -> GaussianDesigned
+pub fn prepare(bt: f64, sps: u64, span: u64, raws: &mut [f64]) -> Result<Gaussian, Refusal>
     ensures { PreparesGaussian (gaussian_of bt sps span) result raws.new }
 {
     if !takes_bt(bt) {
-        return GaussianDesigned::Refused(Refusal::Range(BAD_SHAPE, 0.2, 1.0, bt));
+        return Err(Refusal::Range(Reason::Shape, 0.2, 1.0, bt));
     }
     if !takes_span(span) {
-        return GaussianDesigned::Refused(Refusal::Range(
-            BAD_COUNT,
+        return Err(Refusal::Range(
+            Reason::Count,
             2.0,
             8.0,
             std::num::nearest_u64_to_f64(span),
@@ -94,8 +87,8 @@ pub fn prepare(bt: f64, sps: u64, span: u64, raws: &mut [f64]) -> GaussianDesign
     }
     let most = (TAP_LIMIT - 1) / span;
     if !takes_samples(sps, most) {
-        return GaussianDesigned::Refused(Refusal::Range(
-            BAD_COUNT,
+        return Err(Refusal::Range(
+            Reason::Count,
             2.0,
             std::num::nearest_u64_to_f64(most),
             std::num::nearest_u64_to_f64(sps),
@@ -106,7 +99,7 @@ pub fn prepare(bt: f64, sps: u64, span: u64, raws: &mut [f64]) -> GaussianDesign
     let samples = sps as f64;
     let mid = ((n - 1) as f64) / 2.0;
     let sum = total(a, samples, mid, n, &mut *raws);
-    GaussianDesigned::Ready(Gaussian {
+    Ok(Gaussian {
         a: a,
         sps: samples,
         mid: mid,
@@ -117,7 +110,7 @@ pub fn prepare(bt: f64, sps: u64, span: u64, raws: &mut [f64]) -> GaussianDesign
 
 impl Gaussian {
     // The design alone; refused as `prepare`.
-    pub fn new(bt: f64, sps: u64, span: u64) -> GaussianDesigned
+    pub fn new(bt: f64, sps: u64, span: u64) -> Result<Gaussian, Refusal>
         ensures { result ≡ gaussian_of bt sps span }
     {
         let mut none = [0.0f64; 0];
@@ -165,19 +158,19 @@ pub fn cached_tap(g: Gaussian, raws: &[f64], i: u64) -> f64
 
 // The design for a buffer of `len` elements: refused as `prepare`, then 8 where the taps are not `len`.
 // The first raw taps are left in `raws`, as many as it has places.
-pub fn fitted(bt: f64, sps: u64, span: u64, len: u64, raws: &mut [f64]) -> GaussianDesigned
+pub fn fitted(bt: f64, sps: u64, span: u64, len: u64, raws: &mut [f64]) -> Result<Gaussian, Refusal>
     ensures { PreparesGaussian (fitted_of (gaussian_of bt sps span) len) result raws.new }
 {
     let designed = prepare(bt, sps, span, &mut *raws);
     match designed {
-        GaussianDesigned::Ready(g) => {
+        Ok(g) => {
             let n = g.n;
             if n == len {
-                GaussianDesigned::Ready(g)
+                Ok(g)
             } else {
-                GaussianDesigned::Refused(Refusal::Length(n, len))
+                Err(Refusal::Length(n, len))
             }
         }
-        GaussianDesigned::Refused(why) => GaussianDesigned::Refused(why),
+        Err(why) => Err(why),
     }
 }

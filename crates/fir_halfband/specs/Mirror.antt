@@ -1,5 +1,5 @@
 -- An accepted half-band is symmetric bit for bit, and every second tap from the middle is zero. Assumes nothing.
-use Rattle.std.specs.Prelude.{◌≡◌, refl, Bool, true, false, cond, ℕ, ◌-◌, ◌*◌, ◌%◌, ◌<◌, min, ℤ, pos, Float}
+use Rattle.std.specs.Prelude.{◌≡◌, refl, Bool, true, false, cond, ℕ, ◌-◌, ◌*◌, ◌%◌, ◌<◌, min, ℤ, pos, Float, Ok}
 use Rattle.std.proofs.Common.{sym, ap, ◌∙◌, subst, true≢false, zero-mul, mul-pos, pos_of_ne-zero, arith, ne_eqb, lit<}
 use Rattle.std.specs.Float.{nan, inf, fin, binary64}
 use Rattle.std.specs.Float.Ieee.{up, down, unlike, round, of_int, div, ne}
@@ -13,7 +13,6 @@ use Rattle.fir_halfband.specs.Halfband.{distance, vanishes, unscaled, divisor_of
 use Rattle.fir_halfband.specs.HalfbandLaws.{tap_is, halved, accepted}
 use Rattle.fir_halfband.specs.Distance.{taken_odd, mirror_lesser, mirror_distance, vanishes_alike, vanishes_at}
 use Rattle.fir_halfband.specs.declared.HalfbandDesign.{HalfbandDesign}
-use Rattle.fir_halfband.specs.declared.HalfbandDesigned.TheVariants.{Ready}
 
 -- 0 of either sign
 abbrev pub IsZero : Float → Type 0
@@ -54,7 +53,7 @@ zero_over (fin s m e) h =
     rw (ne_eqb m 0 q, zero-mul (down e), round_nought (unlike false s) (m * up e * 1) (mul-pos (mul-pos (pos_of_ne-zero q) (up_pos e)) (lit< tt))) refl
 
 -- ---- of an accepted ticket
-module _ (beta : Float) (n : ℕ) (d : HalfbandDesign) (r : halfband_of beta n ≡ Ready d) where
+module _ (beta : Float) (n : ℕ) (d : HalfbandDesign) (r : halfband_of beta n ≡ Ok d) where
   pub mirror : (k : ℕ) → k < n → tap_of d k ≡ tap_of d (n - 1 - k)
   mirror k h =
       let a = accepted beta n d r in

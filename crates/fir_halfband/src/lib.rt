@@ -8,9 +8,9 @@ ghost use Rattle.laws.specs.Sums.{sum_to};
 ghost use Rattle.fir_lowpass.specs.Cached.{Caches};
 ghost use Rattle.fir_halfband.specs.Halfband.{length_taken, vanishes, unscaled, halfband_of, tap_of, PreparesHalfband};
 
-use fir_lowpass::lowpass::{Designed, Lowpass, is_usable};
+use fir_lowpass::lowpass::{Lowpass, is_usable};
 use fir_sinc::window::Window;
-use verdict::{BAD_COUNT, BAD_SUM, Refusal};
+use verdict::{Reason, Refusal};
 
 // A design: the low-pass that it is made from, how many taps, and the sum that they are divided by last.
 #[derive(Clone, Copy)]
@@ -18,13 +18,6 @@ pub struct HalfbandDesign {
     pub lp: Lowpass,
     pub n: u64,
     pub sum: f64,
-}
-
-// A design, or why not.
-#[derive(Clone, Copy)]
-pub enum HalfbandDesigned {
-    Ready(HalfbandDesign),
-    Refused(Refusal),
 }
 
 // Whether a half-band has n taps: n mod 4 = 3.
@@ -75,26 +68,26 @@ fn total(lp: Lowpass, raws: &[f64], n: u64) -> f64
 // low-pass of n taps with the cutoff at a quarter of the rate: 6, 4, 16, 10; 10 where the sum of the taps is 0 or not
 // finite.
 // The first raw taps are left in `raws`, as many as it has places.
-pub fn prepare(beta: f64, n: u64, raws: &mut [f64]) -> HalfbandDesigned
+pub fn prepare(beta: f64, n: u64, raws: &mut [f64]) -> Result<HalfbandDesign, Refusal>
     ensures { PreparesHalfband (halfband_of beta n) result raws.new }
 {
     if !takes_length(n) {
-        return HalfbandDesigned::Refused(Refusal::Plain(BAD_COUNT));
+        return Err(Refusal::Plain(Reason::Count));
     }
     let designed = fir_lowpass::lowpass::prepare(0.25, 1.0, Window::Kaiser(beta), n, &mut *raws);
     match designed {
-        Designed::Ready(lp) => {
+        Ok(lp) => {
             let sum = total(lp, &*raws, n);
             if !is_usable(sum) {
-                return HalfbandDesigned::Refused(Refusal::Plain(BAD_SUM));
+                return Err(Refusal::Plain(Reason::Divisor));
             }
-            HalfbandDesigned::Ready(HalfbandDesign {
+            Ok(HalfbandDesign {
                 lp: lp,
                 n: n,
                 sum: sum,
             })
         }
-        Designed::Refused(why) => HalfbandDesigned::Refused(why),
+        Err(why) => Err(why),
     }
 }
 
@@ -113,7 +106,7 @@ pub fn cached_tap(d: HalfbandDesign, raws: &[f64], k: u64) -> f64
 
 impl HalfbandDesign {
     // The design alone; refused as `prepare`.
-    pub fn new(beta: f64, n: u64) -> HalfbandDesigned
+    pub fn new(beta: f64, n: u64) -> Result<HalfbandDesign, Refusal>
         ensures { result ≡ halfband_of beta n }
     {
         let mut none = [0.0f64; 0];

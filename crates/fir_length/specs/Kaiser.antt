@@ -2,17 +2,17 @@
 -- design using the I0-sinh window function", 1974). Definitions only.
 --   beta(a) = 0.1102 (a − 8.7) for a > 50;  0.5842 (a − 21)^0.4 + 0.07886 (a − 21) for 21 ≤ a ≤ 50;  0 else
 --   N = ceil((A − 7.95) / (2.285 · π · width) + 1), made odd, with A = |ripple| and width = 2 · transition / rate
-use Rattle.std.specs.Prelude.{ℕ, ◌+◌, ◌%◌, cond, eqb, Float}
+use Rattle.std.specs.Prelude.{ℕ, ◌+◌, ◌%◌, cond, eqb, Float, Err, Ok, Result}
 use Rattle.std.specs.Float.Ieee.{lt, le, to_unsigned}
 use Rattle.std.specs.Float.Ieee.Scale.{finite}
 use Rattle.laws.specs.Binary64.{◌⊕◌, ◌⊖◌, ◌⊗◌, ◌⊘◌, whole, fraction, pi}
 use Rattle.math_numbers.specs.Numbers.{positive}
 use Rattle.math_exp.specs.Pow04.{pow04_of}
 use Rattle.math_round.specs.Whole.{ceil_of, abs_of}
-use Rattle.verdict.specs.Numbers.{bad_transition, bad_attenuation}
 use Rattle.verdict.specs.declared.Refusal.TheVariants.{Plain, Range}
 use Rattle.fir_length.specs.declared.order.Order.{Order}
-use Rattle.verdict.specs.declared.Length.{Length}
+use Rattle.verdict.specs.declared.Refusal.{Refusal}
+use Rattle.verdict.specs.declared.Reason.TheVariants as Reason
 
 -- ---- beta
 unfoldable pub beta_of : Float → Float
@@ -37,22 +37,22 @@ order_of ripple transition rate =
     let num = estimate a width in
     cond (finite a)
     (cond (lt a (whole 8))
-    (Order.Refused (Plain bad_attenuation))
+    (Order.Refused (Plain Reason.Attenuation))
     (cond (positive width)
     (cond (lt (whole 16777216) num)
-    (Order.Refused (Range bad_transition (whole 0) rate transition))
+    (Order.Refused (Range Reason.Transition (whole 0) rate transition))
     (Order.Taps (odd_up (to_unsigned 64 (ceil_of num))) (beta_of a)))
-    (Order.Refused (Plain bad_transition))))
-    (Order.Refused (Plain bad_attenuation))
+    (Order.Refused (Plain Reason.Transition))))
+    (Order.Refused (Plain Reason.Attenuation))
 
 -- ---- the half-band's: 3 mod 4
 unfoldable pub halfband_up : ℕ → ℕ
 halfband_up n = cond (eqb (n % 4) 1) (n + 2) n
 
-abbrev pub lengthened : Order → Length
-lengthened (Order.Taps n beta) = Length.Taps (halfband_up n)
-lengthened (Order.Refused why) = Length.Refused why
+abbrev pub lengthened : Order → Result ℕ Refusal
+lengthened (Order.Taps n beta) = Ok (halfband_up n)
+lengthened (Order.Refused why) = Err why
 
-unfoldable pub halfband_len_of : Float → Float → Float → Length
+unfoldable pub halfband_len_of : Float → Float → Float → Result ℕ Refusal
 unfolding order_of
 halfband_len_of transition attenuation rate = lengthened (order_of attenuation transition rate)

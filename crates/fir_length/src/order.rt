@@ -6,13 +6,13 @@ ghost use Rattle.fir_length.specs.Kaiser.{estimate, odd_up, order_of, halfband_l
 
 use super::beta::kaiser_beta;
 use math_numbers::PI;
-use verdict::{BAD_ATTENUATION, BAD_TRANSITION, Length, Refusal};
+use verdict::{Reason, Refusal};
 
-// How many taps, and beta; or why not.
+// How many taps a Kaiser design has, and the beta of its window.
 #[derive(Clone, Copy)]
-pub enum Order {
-    Taps(u64, f64),
-    Refused(Refusal),
+pub struct Order {
+    pub taps: u64,
+    pub beta: f64,
 }
 
 // The estimate (a − 7.95) / 2.285 / (π width) + 1.
@@ -35,23 +35,23 @@ fn odd_taps(num: f64) -> u64
 // Refused: 4 where A is not finite or below 8; 3 where the width is not finite and positive; 3 with 0, rate, transition
 // where the estimate is above 2^24. So 16777217 taps can be answered, and two negative signs are taken. Example: (60,
 // −100, −8000) has 293 taps.
-pub fn kaiserord(ripple: f64, transition: f64, rate: f64) -> Order
+pub fn kaiserord(ripple: f64, transition: f64, rate: f64) -> Result<Order, Refusal>
     ensures { result ≡ order_of ripple transition rate }
 {
     let a = math_round::fabs::fabs(ripple);
     if !math_numbers::is_finite(a) {
-        return Order::Refused(Refusal::Plain(BAD_ATTENUATION));
+        return Err(Refusal::Plain(Reason::Attenuation));
     }
     if a < 8.0 {
-        return Order::Refused(Refusal::Plain(BAD_ATTENUATION));
+        return Err(Refusal::Plain(Reason::Attenuation));
     }
     let width = 2.0 * transition / rate;
     if !math_numbers::is_positive(width) {
-        return Order::Refused(Refusal::Plain(BAD_TRANSITION));
+        return Err(Refusal::Plain(Reason::Transition));
     }
     let num = taps_estimate(a, width);
     if num > 16777216.0 {
-        return Order::Refused(Refusal::Range(BAD_TRANSITION, 0.0, rate, transition));
+        return Err(Refusal::Range(Reason::Transition, 0.0, rate, transition));
     }
     let n = odd_taps(num);
     let beta = kaiser_beta(a);
@@ -60,18 +60,18 @@ pub fn kaiserord(ripple: f64, transition: f64, rate: f64) -> Order
 
 // The taps of a half-band filter: kaiserord's, and two more where that leaves 1 mod 4. The arguments stand in the order
 // of the Rust. Refused as kaiserord. Example: (−100, 60, −8000) has 295 taps.
-pub fn halfband_len(transition: f64, attenuation: f64, rate: f64) -> Length
+pub fn halfband_len(transition: f64, attenuation: f64, rate: f64) -> Result<u64, Refusal>
     ensures { result ≡ halfband_len_of transition attenuation rate }
 {
     let order = kaiserord(attenuation, transition, rate);
     match order {
         Order::Taps(n, _) => {
             if n % 4 == 1 {
-                Length::Taps(n + 2)
+                Ok(n + 2)
             } else {
-                Length::Taps(n)
+                Ok(n)
             }
         }
-        Order::Refused(why) => Length::Refused(why),
+        Err(why) => Err(why),
     }
 }

@@ -1,11 +1,10 @@
 -- Each outcome of the judgement of a low-pass, from what the tests said. Assumes nothing.
-use Rattle.std.specs.Prelude.{◌≡◌, refl, Bool, true, false, cond, List, ℕ, ◌≤◌, ◌<◌, ltb, leb, length, Float}
+use Rattle.std.specs.Prelude.{◌≡◌, refl, Bool, true, false, cond, List, ℕ, ◌≤◌, ◌<◌, ltb, leb, length, Float, Err, Ok, Result}
 use Rattle.std.proofs.Common.{sym, ◌∙◌, subst, arith, ltb-true, leb-true}
 use Rattle.std.proofs.Math.Path.{ap}
 use Rattle.laws.specs.Binary64.{◌⊘◌, whole}
 use Rattle.laws.specs.Tests.{both}
 use Rattle.math_numbers.specs.Numbers.{positive}
-use Rattle.verdict.specs.Numbers.{bad_rate, bad_frequency, bad_attenuation, bad_count, bad_sum, not_settled}
 use Rattle.verdict.specs.declared.Refusal.{Refusal}
 use Rattle.verdict.specs.declared.Refusal.TheVariants.{Plain, Range}
 use Rattle.verdict.specs.Outcome.{Fills}
@@ -17,11 +16,9 @@ use Rattle.fir_lowpass.specs.Lowpass.{divisor_of, inside, count_taken, beta_take
 use Rattle.fir_lowpass.specs.Cached.{Caches, PreparesLowpass}
 use Rattle.fir_sinc.specs.declared.window.Window.{Window}
 use Rattle.fir_lowpass.specs.declared.lowpass.Lowpass.{Lowpass}
-use Rattle.fir_lowpass.specs.declared.lowpass.Designed.{Designed}
-use Rattle.fir_lowpass.specs.declared.lowpass.Designed.TheVariants.{Ready, Refused}
-use Rattle.verdict.specs.declared.Verdict.{Verdict}
 use Rattle.laws.specs.Cases.{either_way}
 use Rattle.verdict.specs.Counted.{Counted}
+use Rattle.verdict.specs.declared.Reason.TheVariants as Reason
 
 -- a count that is taken is at most 2^24
 pub count_most : (n : ℕ) → count_taken n ≡ true → n ≤ 16777216
@@ -33,7 +30,7 @@ unfolding count_taken
 count_least n h = ltb-true 0 n (both (ltb 0 n) (leb n 16777216) h).0
 
 -- a refusal is no design
-pub never : (why : Refusal) (l : Lowpass) → Refused why ≡ Ready l → ⊥
+pub never : (why : Refusal) (l : Lowpass) → Err why ≡ Ok l → ⊥
 never why l g = let z : ◌≡◌ {A = ℕ} 0 1 = cc in omega arith
 
 -- ---- what the tests of the numbers so far said
@@ -42,27 +39,27 @@ module _ (cutoff rate : Float) (w : Window) (n : ℕ) where
     module _ (b : inside (cutoff ⊘ rate) ≡ true) where
       module _ (c : count_taken n ≡ true) where
         module _ (d : beta_taken w ≡ true) where
-          pub passes : series_settle w n ≡ true → judgement_of cutoff rate w n ≡ Verdict.Done
+          pub passes : series_settle w n ≡ true → judgement_of cutoff rate w n ≡ Ok tt
           unfolding judgement_of
           passes e = rw (a, b, c, d, e)
 
-          pub no_series : series_settle w n ≡ false → judgement_of cutoff rate w n ≡ Verdict.Refused (Plain not_settled)
+          pub no_series : series_settle w n ≡ false → judgement_of cutoff rate w n ≡ Err (Plain Reason.Unsettled)
           unfolding judgement_of
           no_series e = rw (a, b, c, d, e)
 
-        pub no_beta : beta_taken w ≡ false → judgement_of cutoff rate w n ≡ Verdict.Refused (Plain bad_attenuation)
+        pub no_beta : beta_taken w ≡ false → judgement_of cutoff rate w n ≡ Err (Plain Reason.Attenuation)
         unfolding judgement_of
         no_beta d = rw (a, b, c, d)
 
-      pub no_count : count_taken n ≡ false → judgement_of cutoff rate w n ≡ Verdict.Refused (Plain bad_count)
+      pub no_count : count_taken n ≡ false → judgement_of cutoff rate w n ≡ Err (Plain Reason.Count)
       unfolding judgement_of
       no_count c = rw (a, b, c)
 
-    pub no_cutoff : inside (cutoff ⊘ rate) ≡ false → judgement_of cutoff rate w n ≡ Verdict.Refused (Range bad_frequency (whole 0) (rate ⊘ whole 2) cutoff)
+    pub no_cutoff : inside (cutoff ⊘ rate) ≡ false → judgement_of cutoff rate w n ≡ Err (Range Reason.Frequency (whole 0) (rate ⊘ whole 2) cutoff)
     unfolding judgement_of
     no_cutoff b = rw (a, b)
 
-  pub no_rate : positive rate ≡ false → judgement_of cutoff rate w n ≡ Verdict.Refused (Plain bad_rate)
+  pub no_rate : positive rate ≡ false → judgement_of cutoff rate w n ≡ Err (Plain Reason.Rate)
   unfolding judgement_of
   no_rate a = rw a
 
@@ -74,65 +71,65 @@ pub record Passed (cutoff rate : Float) (w : Window) (n : ℕ) : Type 0 where
   pub shaped : beta_taken w ≡ true
   pub settles : series_settle w n ≡ true
 
-pub passed : (cutoff rate : Float) (w : Window) (n : ℕ) → judgement_of cutoff rate w n ≡ Verdict.Done → Passed cutoff rate w n
+pub passed : (cutoff rate : Float) (w : Window) (n : ℕ) → judgement_of cutoff rate w n ≡ Ok tt → Passed cutoff rate w n
 unfolding judgement_of
 passed cutoff rate w n g = go (positive rate) (inside (cutoff ⊘ rate)) (count_taken n) (beta_taken w) (series_settle w n) refl refl refl refl refl g
   where
-    never_done : (why : Refusal) → Verdict.Refused why ≡ Verdict.Done → ⊥
+    never_done : (why : Refusal) → Err why ≡ Ok tt → ⊥
     never_done why g = let z : ◌≡◌ {A = ℕ} 0 1 = cc in omega arith
 
     go : (a b c d e : Bool) → positive rate ≡ a → inside (cutoff ⊘ rate) ≡ b → count_taken n ≡ c → beta_taken w ≡ d → series_settle w n ≡ e
-        → cond a (cond b (cond c (cond d (cond e Verdict.Done (Verdict.Refused (Plain not_settled))) (Verdict.Refused (Plain bad_attenuation))) (Verdict.Refused (Plain bad_count))) (Verdict.Refused (Range bad_frequency (whole 0) (rate ⊘ whole 2) cutoff))) (Verdict.Refused (Plain bad_rate)) ≡ Verdict.Done
+        → cond a (cond b (cond c (cond d (cond e (Ok tt) (Err (Plain Reason.Unsettled))) (Err (Plain Reason.Attenuation))) (Err (Plain Reason.Count))) (Err (Range Reason.Frequency (whole 0) (rate ⊘ whole 2) cutoff))) (Err (Plain Reason.Rate)) ≡ Ok tt
         → Passed cutoff rate w n
     go true true true true true a b c d e g = record { rated = a; inner = b; counted = c; shaped = d; settles = e }
-    go true true true true false a b c d e g = absurd (never_done (Plain not_settled) g)
-    go true true true false x a b c d e g = absurd (never_done (Plain bad_attenuation) g)
-    go true true false x y a b c d e g = absurd (never_done (Plain bad_count) g)
-    go true false x y z a b c d e g = absurd (never_done (Range bad_frequency (whole 0) (rate ⊘ whole 2) cutoff) g)
-    go false x y z u a b c d e g = absurd (never_done (Plain bad_rate) g)
+    go true true true true false a b c d e g = absurd (never_done (Plain Reason.Unsettled) g)
+    go true true true false x a b c d e g = absurd (never_done (Plain Reason.Attenuation) g)
+    go true true false x y a b c d e g = absurd (never_done (Plain Reason.Count) g)
+    go true false x y z a b c d e g = absurd (never_done (Range Reason.Frequency (whole 0) (rate ⊘ whole 2) cutoff) g)
+    go false x y z u a b c d e g = absurd (never_done (Plain Reason.Rate) g)
 
 -- ---- the design, from what the test of the sum said
 abbrev pub designed : Float → Window → Float → ℕ → Lowpass
 designed fc w i0 n = record { n = n; fc = fc; window = w; i0 = i0; sum = divisor_of fc w i0 n }
 
-same_record : (l m : Lowpass) → Ready l ≡ Ready m → l ≡ m
+same_record : (l m : Lowpass) → Ok l ≡ Ok m → l ≡ m
 same_record l m e = cc
 
 module _ (fc : Float) (w : Window) (i0 : Float) (n : ℕ) where
-  pub ready : usable (divisor_of fc w i0 n) ≡ true → design_of fc w i0 n ≡ Ready (designed fc w i0 n)
+  pub ready : usable (divisor_of fc w i0 n) ≡ true → design_of fc w i0 n ≡ Ok (designed fc w i0 n)
   unfolding design_of
   ready e = rw e
 
-  pub no_divisor : usable (divisor_of fc w i0 n) ≡ false → design_of fc w i0 n ≡ Refused (Plain bad_sum)
+  pub no_divisor : usable (divisor_of fc w i0 n) ≡ false → design_of fc w i0 n ≡ Err (Plain Reason.Divisor)
   unfolding design_of
   no_divisor e = rw e
 
   -- as an answer
-  pub accepts : (s : Float) (rs : List Float) → s ≡ divisor_of fc w i0 n → CachesOf (raw_at fc w i0 n) n rs → usable (divisor_of fc w i0 n) ≡ true → PreparesLowpass (design_of fc w i0 n) (Ready (record { n = n; fc = fc; window = w; i0 = i0; sum = s })) rs
+  pub accepts : (s : Float) (rs : List Float) → s ≡ divisor_of fc w i0 n → CachesOf (raw_at fc w i0 n) n rs → usable (divisor_of fc w i0 n) ≡ true → PreparesLowpass (design_of fc w i0 n) (Ok (record { n = n; fc = fc; window = w; i0 = i0; sum = s })) rs
   accepts s rs e k u =
       let r : Lowpass = record { n = n; fc = fc; window = w; i0 = i0; sum = s } in
       record {
-        is = ap (λ (z : Float). Ready (record { n = n; fc = fc; window = w; i0 = i0; sum = z })) e ∙ sym (ready u);
+        is = ap (λ (z : Float). Ok (record { n = n; fc = fc; window = w; i0 = i0; sum = z })) e ∙ sym (ready u);
         raws = λ l q. subst (λ (z : Lowpass). Caches z rs) (same_record r l q) k;
       }
 
 -- ---- the low-pass, from what came of its numbers
 module _ (cutoff rate : Float) (w : Window) (i0 : Float) (n : ℕ) where
-  judged : (v : Verdict) → judgement_of cutoff rate w n ≡ v → lowpass_with cutoff rate w i0 n ≡ where_passed v (design_of (cutoff ⊘ rate) w i0 n)
+  judged : (v : Result (Unit {0}) Refusal) → judgement_of cutoff rate w n ≡ v → lowpass_with cutoff rate w i0 n ≡ where_passed v (design_of (cutoff ⊘ rate) w i0 n)
   unfolding lowpass_with
-  judged v e = ap (λ (z : Verdict). where_passed z (design_of (cutoff ⊘ rate) w i0 n)) e
+  judged v e = ap (λ (z : Result (Unit {0}) Refusal). where_passed z (design_of (cutoff ⊘ rate) w i0 n)) e
 
-  pub builds : judgement_of cutoff rate w n ≡ Verdict.Done → lowpass_with cutoff rate w i0 n ≡ design_of (cutoff ⊘ rate) w i0 n
-  builds e = judged Verdict.Done e
+  pub builds : judgement_of cutoff rate w n ≡ Ok tt → lowpass_with cutoff rate w i0 n ≡ design_of (cutoff ⊘ rate) w i0 n
+  builds e = judged (Ok tt) e
 
-  pub refuses : (why : Refusal) → judgement_of cutoff rate w n ≡ Verdict.Refused why → lowpass_with cutoff rate w i0 n ≡ Refused why
-  refuses why e = judged (Verdict.Refused why) e
+  pub refuses : (why : Refusal) → judgement_of cutoff rate w n ≡ Err why → lowpass_with cutoff rate w i0 n ≡ Err why
+  refuses why e = judged (Err why) e
 
 -- ---- an answer for an equal design, and one that is a refusal
-pub prepares_as : {d e r : Designed} {rs : List Float} → d ≡ e → PreparesLowpass d r rs → PreparesLowpass e r rs
-prepares_as {d} {e} {r} {rs} p f = subst (λ (z : Designed). PreparesLowpass z r rs) p f
+pub prepares_as : {d e r : Result Lowpass Refusal} {rs : List Float} → d ≡ e → PreparesLowpass d r rs → PreparesLowpass e r rs
+prepares_as {d} {e} {r} {rs} p f = subst (λ (z : Result Lowpass Refusal). PreparesLowpass z r rs) p f
 
-pub prepares_refusal : (d : Designed) (why : Refusal) (rs : List Float) → d ≡ Refused why → PreparesLowpass d (Refused why) rs
+pub prepares_refusal : (d : Result Lowpass Refusal) (why : Refusal) (rs : List Float) → d ≡ Err why → PreparesLowpass d (Err why) rs
 prepares_refusal d why rs e = record { is = sym e; raws = λ l g. absurd (never why l g) }
 
 -- ---- what an accepted ticket tells
@@ -141,46 +138,46 @@ pub record AcceptedWith (cutoff rate : Float) (w : Window) (i0 : Float) (n : ℕ
   pub passes : Passed cutoff rate w n
   pub is : l ≡ designed (cutoff ⊘ rate) w i0 n
 
-pub ready_with : (cutoff rate : Float) (w : Window) (i0 : Float) (n : ℕ) (l : Lowpass) → lowpass_with cutoff rate w i0 n ≡ Ready l → AcceptedWith cutoff rate w i0 n l
+pub ready_with : (cutoff rate : Float) (w : Window) (i0 : Float) (n : ℕ) (l : Lowpass) → lowpass_with cutoff rate w i0 n ≡ Ok l → AcceptedWith cutoff rate w i0 n l
 unfolding lowpass_with design_of
 ready_with cutoff rate w i0 n l e = go (judgement_of cutoff rate w n) (usable (divisor_of (cutoff ⊘ rate) w i0 n)) refl e
   where
-    go : (v : Verdict) (u : Bool) → judgement_of cutoff rate w n ≡ v → where_passed v (cond u (Ready (designed (cutoff ⊘ rate) w i0 n)) (Refused (Plain bad_sum))) ≡ Ready l → AcceptedWith cutoff rate w i0 n l
-    go Verdict.Done true v e = record { passes = passed cutoff rate w n v; is = sym (same_record _ l e) }
-    go Verdict.Done false v e = absurd (never (Plain bad_sum) l e)
-    go (Verdict.Refused why) u v e = absurd (never why l e)
+    go : (v : Result (Unit {0}) Refusal) (u : Bool) → judgement_of cutoff rate w n ≡ v → where_passed v (cond u (Ok (designed (cutoff ⊘ rate) w i0 n)) (Err (Plain Reason.Divisor))) ≡ Ok l → AcceptedWith cutoff rate w i0 n l
+    go (Ok tt) true v e = record { passes = passed cutoff rate w n v; is = sym (same_record _ l e) }
+    go (Ok tt) false v e = absurd (never (Plain Reason.Divisor) l e)
+    go (Err why) u v e = absurd (never why l e)
 
 pub record AcceptedLowpass (cutoff rate : Float) (w : Window) (n : ℕ) (l : Lowpass) : Type 0 where
   pub counted : count_taken n ≡ true
   pub is : l ≡ designed (cutoff ⊘ rate) w (norm_of w) n
 
-pub ready_is : (cutoff rate : Float) (w : Window) (n : ℕ) (l : Lowpass) → lowpass_of cutoff rate w n ≡ Ready l → AcceptedLowpass cutoff rate w n l
+pub ready_is : (cutoff rate : Float) (w : Window) (n : ℕ) (l : Lowpass) → lowpass_of cutoff rate w n ≡ Ok l → AcceptedLowpass cutoff rate w n l
 unfolding lowpass_of
 ready_is cutoff rate w n l e =
     let a = ready_with cutoff rate w (norm_of w) n l e in
     record { counted = a.passes.counted; is = a.is }
 
 -- ---- a buffer
-module _ (g : Designed) (d : List Float) where
-  pub fills : (l : Lowpass) (after : List Float) → g ≡ Ready l → after ≡ taps_of l (length d) → Fills (outcome_of g) d Verdict.Done after
+module _ (g : Result Lowpass Refusal) (d : List Float) where
+  pub fills : (l : Lowpass) (after : List Float) → g ≡ Ok l → after ≡ taps_of l (length d) → Fills (outcome_of g) d (Ok tt) after
   unfolding taps_of
   fills l after h e = Outcome.fills (ap outcome_of h) e
 
-  pub leaves : (why : Refusal) → g ≡ Refused why → Fills (outcome_of g) d (Verdict.Refused why) d
+  pub leaves : (why : Refusal) → g ≡ Err why → Fills (outcome_of g) d (Err why) d
   leaves why h = Outcome.leaves why (ap outcome_of h)
 
 -- ---- for an equal design
-pub fills_as : {d e : Designed} {b a : List Float} {r : Verdict} → d ≡ e → Fills (outcome_of d) b r a → Fills (outcome_of e) b r a
+pub fills_as : {d e : Result Lowpass Refusal} {b a : List Float} {r : Result (Unit {0}) Refusal} → d ≡ e → Fills (outcome_of d) b r a → Fills (outcome_of e) b r a
 fills_as p f = Outcome.fills_as (ap outcome_of p) f
 
 -- ---- an accepted design has as many taps as it was asked for
-passed_count : (n : ℕ) (v : Verdict) (d : Designed) → Counted n (outcome_of d) → Counted n (outcome_of (where_passed v d))
-passed_count n Verdict.Done d c = c
-passed_count n (Verdict.Refused why) d c = tt
+passed_count : (n : ℕ) (v : Result (Unit {0}) Refusal) (d : Result Lowpass Refusal) → Counted n (outcome_of d) → Counted n (outcome_of (where_passed v d))
+passed_count n (Ok tt) d c = c
+passed_count n (Err why) d c = tt
 
 pub with_count : (cutoff rate : Float) (w : Window) (i0 : Float) (n : ℕ) → Counted n (outcome_of (lowpass_with cutoff rate w i0 n))
 unfolding lowpass_with design_of
-with_count cutoff rate w i0 n = passed_count n (judgement_of cutoff rate w n) (design_of (cutoff ⊘ rate) w i0 n) (either_way (λ (d : Designed). Counted n (outcome_of d)) (usable (divisor_of (cutoff ⊘ rate) w i0 n)) _ _ refl tt)
+with_count cutoff rate w i0 n = passed_count n (judgement_of cutoff rate w n) (design_of (cutoff ⊘ rate) w i0 n) (either_way (λ (d : Result Lowpass Refusal). Counted n (outcome_of d)) (usable (divisor_of (cutoff ⊘ rate) w i0 n)) _ _ refl tt)
 
 pub lowpass_count : (cutoff rate : Float) (w : Window) (n : ℕ) → Counted n (outcome_of (lowpass_of cutoff rate w n))
 unfolding lowpass_of

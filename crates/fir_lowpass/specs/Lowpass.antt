@@ -1,6 +1,6 @@
 -- The windowed-sinc low-pass of n taps with the cutoff fc, a fraction of the rate. Definitions only.
 --   tap i is h[i] / Σ h, with the raw taps h of `fir_sinc/Taps`; the window is divided by i0, the series at its beta
-use Rattle.std.specs.Prelude.{ℕ, ◌-◌, Bool, true, cond, ◌&&◌, List, ltb, leb, Float}
+use Rattle.std.specs.Prelude.{ℕ, ◌-◌, Bool, true, cond, ◌&&◌, List, ltb, leb, Float, Err, Ok, Result}
 use Rattle.std.specs.Float.{binary64}
 use Rattle.std.specs.Float.Ieee.{lt, le, ne}
 use Rattle.std.specs.Float.Ieee.Scale.{finite}
@@ -8,9 +8,7 @@ use Rattle.laws.specs.Binary64.{◌⊘◌, whole, fraction}
 use Rattle.laws.specs.Filled.{tabulate}
 use Rattle.laws.specs.Sums.{sum_to}
 use Rattle.math_numbers.specs.Numbers.{positive}
-use Rattle.verdict.specs.Numbers.{bad_rate, bad_frequency, bad_attenuation, bad_count, bad_sum, not_settled}
 use Rattle.verdict.specs.declared.Refusal.TheVariants.{Plain, Range}
-use Rattle.verdict.specs.declared.Verdict.{Verdict}
 use Rattle.verdict.specs.Outcome.{Outcome}
 use Rattle.win_settling.specs.Settling.{kaiser_settles}
 use Rattle.fir_sinc.specs.Windows.{norm_of}
@@ -18,8 +16,8 @@ use Rattle.fir_sinc.specs.Taps.{raw_at}
 use Rattle.fir_sinc.specs.declared.window.Window.{Window}
 use Rattle.fir_sinc.specs.declared.window.Window.TheVariants.{Hann, Hamming, Blackman, Kaiser, Cosines}
 use Rattle.fir_lowpass.specs.declared.lowpass.Lowpass.{Lowpass}
-use Rattle.fir_lowpass.specs.declared.lowpass.Designed.{Designed}
-use Rattle.fir_lowpass.specs.declared.lowpass.Designed.TheVariants.{Ready, Refused}
+use Rattle.verdict.specs.declared.Refusal.{Refusal}
+use Rattle.verdict.specs.declared.Reason.TheVariants as Reason
 
 -- the last divisor: the sum of the raw taps by rising index
 unfoldable pub divisor_of : Float → Window → Float → ℕ → Float
@@ -51,7 +49,7 @@ unfoldable pub usable : Float → Bool
 usable s = finite s && ne s (whole 0)
 
 -- the numbers of a ticket, in this order
-unfoldable pub judgement_of : Float → Float → Window → ℕ → Verdict
+unfoldable pub judgement_of : Float → Float → Window → ℕ → Result (Unit {0}) Refusal
 unfolding inside count_taken beta_taken series_settle
 judgement_of cutoff rate w n =
     cond (positive rate)
@@ -59,32 +57,32 @@ judgement_of cutoff rate w n =
     (cond (count_taken n)
     (cond (beta_taken w)
     (cond (series_settle w n)
-    Verdict.Done
-    (Verdict.Refused (Plain not_settled)))
-    (Verdict.Refused (Plain bad_attenuation)))
-    (Verdict.Refused (Plain bad_count)))
-    (Verdict.Refused (Range bad_frequency (whole 0) (rate ⊘ whole 2) cutoff)))
-    (Verdict.Refused (Plain bad_rate))
+    (Ok tt)
+    (Err (Plain Reason.Unsettled)))
+    (Err (Plain Reason.Attenuation)))
+    (Err (Plain Reason.Count)))
+    (Err (Range Reason.Frequency (whole 0) (rate ⊘ whole 2) cutoff)))
+    (Err (Plain Reason.Rate))
 
 -- the design, where its taps can be divided by their sum
-unfoldable pub design_of : Float → Window → Float → ℕ → Designed
+unfoldable pub design_of : Float → Window → Float → ℕ → Result Lowpass Refusal
 unfolding divisor_of usable
 design_of fc w i0 n =
     let sum = divisor_of fc w i0 n in
-    cond (usable sum) (Ready (record { n = n; fc = fc; window = w; i0 = i0; sum = sum })) (Refused (Plain bad_sum))
+    cond (usable sum) (Ok (record { n = n; fc = fc; window = w; i0 = i0; sum = sum })) (Err (Plain Reason.Divisor))
 
 -- a design for numbers that pass, else their refusal
-abbrev pub where_passed : Verdict → Designed → Designed
-where_passed Verdict.Done d = d
-where_passed (Verdict.Refused why) d = Refused why
+abbrev pub where_passed : Result (Unit {0}) Refusal → Result Lowpass Refusal → Result Lowpass Refusal
+where_passed (Ok tt) d = d
+where_passed (Err why) d = Err why
 
 -- the low-pass whose window is divided by i0
-unfoldable pub lowpass_with : Float → Float → Window → Float → ℕ → Designed
+unfoldable pub lowpass_with : Float → Float → Window → Float → ℕ → Result Lowpass Refusal
 unfolding judgement_of design_of
 lowpass_with cutoff rate w i0 n = where_passed (judgement_of cutoff rate w n) (design_of (cutoff ⊘ rate) w i0 n)
 
 -- the low-pass of a ticket, divided by the series at its window's beta: accepted where the answer is `Ready`
-unfoldable pub lowpass_of : Float → Float → Window → ℕ → Designed
+unfoldable pub lowpass_of : Float → Float → Window → ℕ → Result Lowpass Refusal
 unfolding lowpass_with
 lowpass_of cutoff rate w n = lowpass_with cutoff rate w (norm_of w) n
 
@@ -99,6 +97,6 @@ unfolding tap_of
 taps_of l n = tabulate n (tap_of l)
 
 -- ---- what comes of a ticket
-abbrev pub outcome_of : Designed → Outcome
-outcome_of (Ready l) = Outcome.Designed l.n l.sum (tap_of l)
-outcome_of (Refused why) = Outcome.Refused why
+abbrev pub outcome_of : Result Lowpass Refusal → Outcome
+outcome_of (Ok l) = Outcome.Designed l.n l.sum (tap_of l)
+outcome_of (Err why) = Outcome.Refused why

@@ -7,9 +7,7 @@ use fir_sinc::sum::total;
 use fir_sinc::tap::raw_tap;
 use fir_sinc::window::{Window, norm};
 use math_numbers::TAP_LIMIT;
-use verdict::{
-    BAD_ATTENUATION, BAD_COUNT, BAD_FREQUENCY, BAD_RATE, BAD_SUM, NOT_SETTLED, Refusal, Verdict,
-};
+use verdict::{Reason, Refusal};
 
 // A design: how many taps, the cutoff as a fraction of the rate, the window, the value that the window is divided by
 // (the series at beta, 1 where the window isn't Kaiser's), and the sum that the taps are divided by.
@@ -20,13 +18,6 @@ pub struct Lowpass {
     pub window: Window,
     pub i0: f64,
     pub sum: f64,
-}
-
-// A design, or why not.
-#[derive(Clone, Copy)]
-pub enum Designed {
-    Ready(Lowpass),
-    Refused(Refusal),
 }
 
 // Whether a cutoff lies between 0 and half the rate.
@@ -80,37 +71,37 @@ pub fn is_usable(s: f64) -> bool
 // The numbers of a ticket. Refused, in this order: 1 a rate that isn't finite and positive; 2 with 0, rate/2, cutoff
 // where cutoff/rate isn't between 0 and 1/2; 6 no taps or more than 2^24; 4 a beta that isn't finite and not negative;
 // 16 a series at beta or at a tap that hasn't settled, where there are more taps than one.
-fn judge(cutoff: f64, rate: f64, window: Window, n: u64) -> Verdict
+fn judge(cutoff: f64, rate: f64, window: Window, n: u64) -> Result<(), Refusal>
     ensures { result ≡ judgement_of cutoff rate window n }
 {
     if !math_numbers::is_positive(rate) {
-        return Verdict::Refused(Refusal::Plain(BAD_RATE));
+        return Err(Refusal::Plain(Reason::Rate));
     }
     if !is_inside(cutoff / rate) {
-        return Verdict::Refused(Refusal::Range(BAD_FREQUENCY, 0.0, rate / 2.0, cutoff));
+        return Err(Refusal::Range(Reason::Frequency, 0.0, rate / 2.0, cutoff));
     }
     if !takes_count(n) {
-        return Verdict::Refused(Refusal::Plain(BAD_COUNT));
+        return Err(Refusal::Plain(Reason::Count));
     }
     if !takes_beta(window) {
-        return Verdict::Refused(Refusal::Plain(BAD_ATTENUATION));
+        return Err(Refusal::Plain(Reason::Attenuation));
     }
     if !series_settle(window, n) {
-        return Verdict::Refused(Refusal::Plain(NOT_SETTLED));
+        return Err(Refusal::Plain(Reason::Unsettled));
     }
-    Verdict::Done
+    Ok(())
 }
 
 // The design whose numbers passed, its window divided by i0; 10 where the sum of the raw taps is 0 or not finite.
-fn build(fc: f64, window: Window, i0: f64, n: u64, raws: &mut [f64]) -> Designed
+fn build(fc: f64, window: Window, i0: f64, n: u64, raws: &mut [f64]) -> Result<Lowpass, Refusal>
     requires { n ≤ 16777216 }
     ensures { PreparesLowpass (design_of fc window i0 n) result raws.new }
 {
     let sum = total(fc, window, i0, n, &mut *raws);
     if !is_usable(sum) {
-        return Designed::Refused(Refusal::Plain(BAD_SUM));
+        return Err(Refusal::Plain(Reason::Divisor));
     }
-    Designed::Ready(Lowpass {
+    Ok(Lowpass {
         n: n,
         fc: fc,
         window: window,
@@ -124,13 +115,13 @@ fn build(fc: f64, window: Window, i0: f64, n: u64, raws: &mut [f64]) -> Designed
 // 16 a series at beta or at a tap that hasn't settled, where there are more taps than one; 10 a sum of the raw taps that
 // is 0 or not finite.
 // The first raw taps are left in `raws`, as many as it has places.
-pub fn prepare(cutoff: f64, rate: f64, window: Window, n: u64, raws: &mut [f64]) -> Designed
+pub fn prepare(cutoff: f64, rate: f64, window: Window, n: u64, raws: &mut [f64]) -> Result<Lowpass, Refusal>
     ensures { PreparesLowpass (lowpass_of cutoff rate window n) result raws.new }
 {
     let verdict = judge(cutoff, rate, window, n);
     match verdict {
-        Verdict::Done => build(cutoff / rate, window, norm(window), n, &mut *raws),
-        Verdict::Refused(why) => Designed::Refused(why),
+        Ok(()) => build(cutoff / rate, window, norm(window), n, &mut *raws),
+        Err(why) => Err(why),
     }
 }
 
@@ -142,13 +133,13 @@ pub fn prepare_with(
     i0: f64,
     n: u64,
     raws: &mut [f64],
-) -> Designed
+) -> Result<Lowpass, Refusal>
     ensures { PreparesLowpass (lowpass_with cutoff rate window i0 n) result raws.new }
 {
     let verdict = judge(cutoff, rate, window, n);
     match verdict {
-        Verdict::Done => build(cutoff / rate, window, i0, n, &mut *raws),
-        Verdict::Refused(why) => Designed::Refused(why),
+        Ok(()) => build(cutoff / rate, window, i0, n, &mut *raws),
+        Err(why) => Err(why),
     }
 }
 
@@ -170,7 +161,7 @@ pub fn cached_tap(lp: Lowpass, raws: &[f64], i: u64) -> f64
 
 impl Lowpass {
     // The design alone; refused as `prepare`.
-    pub fn new(cutoff: f64, rate: f64, window: Window, n: u64) -> Designed
+    pub fn new(cutoff: f64, rate: f64, window: Window, n: u64) -> Result<Lowpass, Refusal>
         ensures { result ≡ lowpass_of cutoff rate window n }
     {
         let mut none = [0.0f64; 1];

@@ -6,21 +6,21 @@ ghost use Rattle.std.specs.Prelude.{◌≡◌};
 ghost use Rattle.fir_lowpass.specs.Cached.{PreparesLowpass};
 ghost use Rattle.fir_retune.specs.Retune.{new_cutoff_of, new_beta_of, retuned_of};
 
-use fir_lowpass::lowpass::{Designed, Lowpass, prepare, prepare_with};
+use fir_lowpass::lowpass::{Lowpass, prepare, prepare_with};
 use fir_sinc::window::Window;
-use verdict::{BAD_CODE, Refusal, Verdict};
+use verdict::{Reason, Refusal};
 
 // The record after a turn, and whether it was turned.
 #[derive(Clone, Copy)]
 pub struct Retuned {
     pub design: Lowpass,
-    pub verdict: Verdict,
+    pub verdict: Result<(), Refusal>,
 }
 
 // The design with a new cutoff, given with its rate. The series at beta is the one that the record keeps. Refused as a
 // low-pass: 1, 2, 6, 4, 16, 10.
 // The first raw taps are left in `raws`, as many as it has places.
-pub fn prepare_cutoff(lp: Lowpass, cutoff: f64, rate: f64, raws: &mut [f64]) -> Designed
+pub fn prepare_cutoff(lp: Lowpass, cutoff: f64, rate: f64, raws: &mut [f64]) -> Result<Lowpass, Refusal>
     ensures { PreparesLowpass (new_cutoff_of lp cutoff rate) result raws.new }
 {
     let w = lp.window;
@@ -31,31 +31,31 @@ pub fn prepare_cutoff(lp: Lowpass, cutoff: f64, rate: f64, raws: &mut [f64]) -> 
 // anything else; then as a low-pass with that cutoff at the rate 1: 2, 6, 4, 16, 10, of which 2 and 6 come only of a
 // record that no design gives.
 // The first raw taps are left in `raws`, as many as it has places.
-pub fn prepare_beta(lp: Lowpass, beta: f64, raws: &mut [f64]) -> Designed
+pub fn prepare_beta(lp: Lowpass, beta: f64, raws: &mut [f64]) -> Result<Lowpass, Refusal>
     ensures { PreparesLowpass (new_beta_of lp beta) result raws.new }
 {
     let w = lp.window;
     match w {
         Window::Kaiser(_) => prepare(lp.fc, 1.0, Window::Kaiser(beta), lp.n, &mut *raws),
-        Window::Hann => Designed::Refused(Refusal::Plain(BAD_CODE)),
-        Window::Hamming => Designed::Refused(Refusal::Plain(BAD_CODE)),
-        Window::Blackman => Designed::Refused(Refusal::Plain(BAD_CODE)),
-        Window::Cosines(_) => Designed::Refused(Refusal::Plain(BAD_CODE)),
+        Window::Hann => Err(Refusal::Plain(Reason::Code)),
+        Window::Hamming => Err(Refusal::Plain(Reason::Code)),
+        Window::Blackman => Err(Refusal::Plain(Reason::Code)),
+        Window::Cosines(_) => Err(Refusal::Plain(Reason::Code)),
     }
 }
 
 // The record after a turn that came to this: the new design, or as it was.
-fn turned(lp: Lowpass, designed: Designed) -> Retuned
+fn turned(lp: Lowpass, designed: Result<Lowpass, Refusal>) -> Retuned
     ensures { result ≡ retuned_of lp designed }
 {
     match designed {
-        Designed::Ready(new) => Retuned {
+        Ok(new) => Retuned {
             design: new,
-            verdict: Verdict::Done,
+            verdict: Ok(()),
         },
-        Designed::Refused(why) => Retuned {
+        Err(why) => Retuned {
             design: lp,
-            verdict: Verdict::Refused(why),
+            verdict: Err(why),
         },
     }
 }

@@ -2,7 +2,7 @@
 --   t = (k − (n − 1)/2)/sps,  x = 4 b t;  h(0) = (1 − b) + 4 b/π
 --   h(t) = b/√2 ((1 + 2/π) sin(π/(4 b)) + (1 − 2/π) cos(π/(4 b))) where |1 − x²| < 1e-9
 --   h(t) = (sin(π t (1 − b)) + x cos(π t (1 + b))) / (π t (1 − x²)) else;  tap k is h · 1/√(Σ h²)
-use Rattle.std.specs.Prelude.{ℕ, ◌+◌, ◌-◌, ◌*◌, Bool, cond, ◌&&◌, ◌==◌, nat_le, nat_lt, Float}
+use Rattle.std.specs.Prelude.{ℕ, ◌+◌, ◌-◌, ◌*◌, Bool, cond, ◌&&◌, ◌==◌, nat_le, nat_lt, Float, Err, Ok, Result}
 use Rattle.std.specs.Float.{binary64}
 use Rattle.std.specs.Float.Ieee.{lt, le, eq}
 use Rattle.laws.specs.Binary64.{◌⊕◌, ◌⊖◌, ◌⊗◌, ◌⊘◌, whole, fraction, pi, sqrt2}
@@ -10,13 +10,11 @@ use Rattle.laws.specs.Sums.{sum_to}
 use Rattle.math_round.specs.Whole.{abs_of}
 use Rattle.math_sqrt.specs.Sqrt.{sqrt_of}
 use Rattle.math_trig.specs.Trig.{sin_of, cos_of}
-use Rattle.verdict.specs.Numbers.{bad_shape, bad_count}
-use Rattle.verdict.specs.declared.Length.{Length}
 use Rattle.verdict.specs.declared.Refusal.TheVariants as Refusal
 use Rattle.verdict.specs.Outcome.{Outcome}
 use Rattle.fir_rrc.specs.declared.design.Rrc.{Rrc}
-use Rattle.fir_rrc.specs.declared.design.RrcDesigned.{RrcDesigned}
-use Rattle.fir_rrc.specs.declared.design.RrcDesigned.TheVariants.{Ready, Refused}
+use Rattle.verdict.specs.declared.Refusal.{Refusal}
+use Rattle.verdict.specs.declared.Reason.TheVariants as Reason
 
 -- ---- the number of taps: the samples tested before the span
 unfoldable pub sampled : ℕ → Bool
@@ -25,14 +23,14 @@ sampled sps = nat_le 2 sps && nat_le sps 1024
 unfoldable pub spanned : ℕ → Bool
 spanned span = nat_le 4 span && nat_le span 32
 
-unfoldable pub rrc_len_of : ℕ → ℕ → Length
+unfoldable pub rrc_len_of : ℕ → ℕ → Result ℕ Refusal
 unfolding sampled spanned
 rrc_len_of sps span =
     cond (sampled sps)
     (cond (spanned span)
-    (Length.Taps (span * sps + 1))
-    (Length.Refused (Refusal.Range bad_count (whole 4) (whole 32) (whole span))))
-    (Length.Refused (Refusal.Range bad_count (whole 2) (whole 1024) (whole sps)))
+    (Ok (span * sps + 1))
+    (Err (Refusal.Range Reason.Count (whole 4) (whole 32) (whole span))))
+    (Err (Refusal.Range Reason.Count (whole 2) (whole 1024) (whole sps)))
 
 -- ---- the pulse at t, before the scaling
 unfoldable pub peak : Float → Float
@@ -64,13 +62,13 @@ rolloff_taken b = le (fraction 5 100) b && le b (whole 1)
 unfoldable pub norm_of : Float → ℕ → ℕ → Float
 norm_of b sps n = whole 1 ⊘ sqrt_of (sum_to binary64 (λ k. unscaled_at b sps n k ⊗ unscaled_at b sps n k) n)
 
-abbrev pub rrc_in : Float → ℕ → Length → RrcDesigned
-rrc_in b sps (Length.Taps n) = Ready (record { rolloff = b; sps = sps; n = n; norm = norm_of b sps n })
-rrc_in b sps (Length.Refused why) = Refused why
+abbrev pub rrc_in : Float → ℕ → Result ℕ Refusal → Result Rrc Refusal
+rrc_in b sps (Ok n) = Ok (record { rolloff = b; sps = sps; n = n; norm = norm_of b sps n })
+rrc_in b sps (Err why) = Err why
 
-unfoldable pub rrc_of : Float → ℕ → ℕ → RrcDesigned
+unfoldable pub rrc_of : Float → ℕ → ℕ → Result Rrc Refusal
 unfolding rolloff_taken
-rrc_of b sps span = cond (rolloff_taken b) (rrc_in b sps (rrc_len_of sps span)) (Refused (Refusal.Range bad_shape (fraction 5 100) (whole 1) b))
+rrc_of b sps span = cond (rolloff_taken b) (rrc_in b sps (rrc_len_of sps span)) (Err (Refusal.Range Reason.Shape (fraction 5 100) (whole 1) b))
 
 -- tap k of a design, a product; 0 past the last one, and for a record that no design gives
 unfoldable pub tap_of : Rrc → ℕ → Float
@@ -78,11 +76,11 @@ unfolding unscaled_at
 tap_of d k = cond (nat_lt 16777216 d.n) (whole 0) (cond (nat_lt k d.n) (cond (nat_lt 16777216 d.sps) (whole 0) (unscaled_at d.rolloff d.sps d.n k ⊗ d.norm)) (whole 0))
 
 -- for a buffer of len elements
-abbrev pub fitted_of : RrcDesigned → ℕ → RrcDesigned
-fitted_of (Ready d) len = cond (d.n == len) (Ready d) (Refused (Refusal.Length d.n len))
-fitted_of (Refused why) len = Refused why
+abbrev pub fitted_of : Result Rrc Refusal → ℕ → Result Rrc Refusal
+fitted_of (Ok d) len = cond (d.n == len) (Ok d) (Err (Refusal.Length d.n len))
+fitted_of (Err why) len = Err why
 
 -- what comes of a ticket; its factor stands in the divisor's place
-abbrev pub outcome_of : RrcDesigned → Outcome
-outcome_of (Ready d) = Outcome.Designed d.n d.norm (tap_of d)
-outcome_of (Refused why) = Outcome.Refused why
+abbrev pub outcome_of : Result Rrc Refusal → Outcome
+outcome_of (Ok d) = Outcome.Designed d.n d.norm (tap_of d)
+outcome_of (Err why) = Outcome.Refused why

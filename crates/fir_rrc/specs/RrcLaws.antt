@@ -1,20 +1,18 @@
 -- Each outcome of the judgement of a root-raised-cosine pulse, from what the tests said, and how few taps are taken.
 -- Assumes nothing.
-use Rattle.std.specs.Prelude.{◌≡◌, ℕ, ◌+◌, ◌*◌, ◌≤◌, Bool, true, false, cond, ◌≢◌, nat_le, refl, Float}
+use Rattle.std.specs.Prelude.{◌≡◌, ℕ, ◌+◌, ◌*◌, ◌≤◌, Bool, true, false, cond, ◌≢◌, nat_le, refl, Float, Err, Ok, Result}
 use Rattle.std.proofs.Common.{ap, ◌∙◌, le_trans, mul-le-mul_left, mul-le-mul_right, arith, leb-true}
 use Rattle.std.specs.Float.{binary64}
 use Rattle.laws.specs.Binary64.{◌⊗◌, ◌⊘◌, whole, fraction}
 use Rattle.laws.specs.Sums.{sum_to}
 use Rattle.laws.specs.Tests.{both}
 use Rattle.math_sqrt.specs.Sqrt.{sqrt_of}
-use Rattle.verdict.specs.Numbers.{bad_shape, bad_count}
 use Rattle.verdict.specs.declared.Refusal.{Refusal}
 use Rattle.verdict.specs.declared.Refusal.TheVariants.{Range}
-use Rattle.verdict.specs.declared.Length.TheVariants as Length
 use Rattle.fir_rrc.specs.Rrc.{sampled, spanned, rrc_len_of, unscaled_at, rolloff_taken, norm_of, rrc_in, rrc_of, fitted_of, outcome_of}
-use Rattle.fir_rrc.specs.declared.design.RrcDesigned.TheVariants.{Ready, Refused}
 use Rattle.verdict.specs.Counted.{Counted, where_equal}
-use Rattle.fir_rrc.specs.declared.design.RrcDesigned.{RrcDesigned}
+use Rattle.fir_rrc.specs.declared.design.Rrc.{Rrc}
+use Rattle.verdict.specs.declared.Reason.TheVariants as Reason
 
 -- ---- the numbers that are taken
 pub samples_most : (sps : ℕ) → sampled sps ≡ true → sps ≤ 1024
@@ -32,40 +30,40 @@ product_most sps span a b = le_trans (mul-le-mul_right sps (span_most span b)) (
 -- ---- the number of taps, from what the tests so far said
 module _ (sps span : ℕ) where
   module _ (a : sampled sps ≡ true) where
-    pub so_many : spanned span ≡ true → rrc_len_of sps span ≡ Length.Taps (span * sps + 1)
+    pub so_many : spanned span ≡ true → rrc_len_of sps span ≡ Ok (span * sps + 1)
     unfolding rrc_len_of
     so_many b = rw (a, b)
 
-    pub no_span : spanned span ≡ false → rrc_len_of sps span ≡ Length.Refused (Range bad_count (whole 4) (whole 32) (whole span))
+    pub no_span : spanned span ≡ false → rrc_len_of sps span ≡ Err (Range Reason.Count (whole 4) (whole 32) (whole span))
     unfolding rrc_len_of
     no_span b = rw (a, b)
 
-  pub no_samples : sampled sps ≡ false → rrc_len_of sps span ≡ Length.Refused (Range bad_count (whole 2) (whole 1024) (whole sps))
+  pub no_samples : sampled sps ≡ false → rrc_len_of sps span ≡ Err (Range Reason.Count (whole 2) (whole 1024) (whole sps))
   unfolding rrc_len_of
   no_samples a = rw a
 
 -- ---- where there are taps, they and the samples are few
 -- a refusal is no number
-never : (why : Refusal) (n : ℕ) → Length.Refused why ≢ Length.Taps n
+never : (why : Refusal) (n : ℕ) → Err why ≢ Ok n
 never why n e = let z : ◌≡◌ {A = ℕ} 0 1 = cc in omega arith
 
 pub record Few (sps n : ℕ) : Type 0 where
   pub samples : sps ≤ 1024
   pub taps : n ≤ 32769
 
-pub few : (sps span n : ℕ) → rrc_len_of sps span ≡ Length.Taps n → Few sps n
+pub few : (sps span n : ℕ) → rrc_len_of sps span ≡ Ok n → Few sps n
 unfolding rrc_len_of
 few sps span n e = go (sampled sps) (spanned span) (samples_most sps) (product_most sps span) e
   where
     go : (a b : Bool) → (a ≡ true → sps ≤ 1024) → (a ≡ true → b ≡ true → span * sps ≤ 32768)
-        → cond a (cond b (Length.Taps (span * sps + 1)) (Length.Refused (Range bad_count (whole 4) (whole 32) (whole span)))) (Length.Refused (Range bad_count (whole 2) (whole 1024) (whole sps))) ≡ Length.Taps n
+        → cond a (cond b (Ok (span * sps + 1)) (Err (Range Reason.Count (whole 4) (whole 32) (whole span)))) (Err (Range Reason.Count (whole 2) (whole 1024) (whole sps))) ≡ Ok n
         → Few sps n
     go true true h k e =
         let s : span * sps + 1 ≡ n = cc in
         let p = k refl refl in
         record { samples = h refl; taps = omega arith }
-    go true false h k e = absurd (never (Range bad_count (whole 4) (whole 32) (whole span)) n e)
-    go false b h k e = absurd (never (Range bad_count (whole 2) (whole 1024) (whole sps)) n e)
+    go true false h k e = absurd (never (Range Reason.Count (whole 4) (whole 32) (whole span)) n e)
+    go false b h k e = absurd (never (Range Reason.Count (whole 2) (whole 1024) (whole sps)) n e)
 
 -- ---- the design, by the number of taps
 module _ (b : Float) (sps span : ℕ) where
@@ -73,16 +71,16 @@ module _ (b : Float) (sps span : ℕ) where
   unfolding rrc_of
   by_length h = rw h
 
-  pub no_rolloff : rolloff_taken b ≡ false → rrc_of b sps span ≡ Refused (Range bad_shape (fraction 5 100) (whole 1) b)
+  pub no_rolloff : rolloff_taken b ≡ false → rrc_of b sps span ≡ Err (Range Reason.Shape (fraction 5 100) (whole 1) b)
   unfolding rrc_of
   no_rolloff h = rw h
 
 -- an accepted one, its factor from the energy and the root of that
-pub ready : (b : Float) (sps n : ℕ) {e s : Float} → e ≡ sum_to binary64 (λ k. unscaled_at b sps n k ⊗ unscaled_at b sps n k) n → s ≡ sqrt_of e → Ready (record { rolloff = b; sps = sps; n = n; norm = whole 1 ⊘ s }) ≡ rrc_in b sps (Length.Taps n)
+pub ready : (b : Float) (sps n : ℕ) {e s : Float} → e ≡ sum_to binary64 (λ k. unscaled_at b sps n k ⊗ unscaled_at b sps n k) n → s ≡ sqrt_of e → Ok (record { rolloff = b; sps = sps; n = n; norm = whole 1 ⊘ s }) ≡ rrc_in b sps (Ok n)
 unfolding norm_of
-ready b sps n h k = ap (λ (z : Float). Ready (record { rolloff = b; sps = sps; n = n; norm = whole 1 ⊘ z })) (k ∙ ap sqrt_of h)
+ready b sps n h k = ap (λ (z : Float). Ok (record { rolloff = b; sps = sps; n = n; norm = whole 1 ⊘ z })) (k ∙ ap sqrt_of h)
 
 -- ---- an accepted pulse has as many taps as its buffer has elements
-pub rrc_count : (d : RrcDesigned) (len : ℕ) → Counted len (outcome_of (fitted_of d len))
-rrc_count (Ready r) len = where_equal outcome_of len _ _ r.n len (λ e. e) tt
-rrc_count (Refused why) len = tt
+pub rrc_count : (d : Result Rrc Refusal) (len : ℕ) → Counted len (outcome_of (fitted_of d len))
+rrc_count (Ok r) len = where_equal outcome_of len _ _ r.n len (λ e. e) tt
+rrc_count (Err why) len = tt

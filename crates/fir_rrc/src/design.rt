@@ -6,7 +6,7 @@ ghost use Rattle.laws.specs.Sums.{sum_to};
 ghost use Rattle.fir_rrc.specs.Rrc.{sampled, spanned, rrc_len_of, peak, corner, slope, pulse_at, unscaled_at, rolloff_taken, rrc_of, tap_of, fitted_of};
 
 use math_numbers::{PI, TAP_LIMIT};
-use verdict::{BAD_COUNT, BAD_SHAPE, Length, Refusal};
+use verdict::{Reason, Refusal};
 
 const SQRT_2: f64 = 1.4142135623730951;
 
@@ -17,13 +17,6 @@ pub struct Rrc {
     pub sps: u64,
     pub n: u64,
     pub norm: f64,
-}
-
-// A design, or why not.
-#[derive(Clone, Copy)]
-pub enum RrcDesigned {
-    Ready(Rrc),
-    Refused(Refusal),
 }
 
 // Whether a symbol has so many samples: 2 to 1024.
@@ -42,26 +35,26 @@ fn takes_span(span: u64) -> bool
 
 // How many taps: span · sps + 1. Refused, in this order: 6 with 2, 1024, sps; 6 with 4, 32, span. Example: (2, 4) has
 // 9.
-pub fn rrc_len(sps: u64, span: u64) -> Length
+pub fn rrc_len(sps: u64, span: u64) -> Result<u64, Refusal>
     ensures { result ≡ rrc_len_of sps span }
 {
     if !takes_samples(sps) {
-        return Length::Refused(Refusal::Range(
-            BAD_COUNT,
+        return Err(Refusal::Range(
+            Reason::Count,
             2.0,
             1024.0,
             std::num::nearest_u64_to_f64(sps),
         ));
     }
     if !takes_span(span) {
-        return Length::Refused(Refusal::Range(
-            BAD_COUNT,
+        return Err(Refusal::Range(
+            Reason::Count,
             4.0,
             32.0,
             std::num::nearest_u64_to_f64(span),
         ));
     }
-    Length::Taps(span * sps + 1)
+    Ok(span * sps + 1)
 }
 
 // Whether a roll-off is from 0.05 to 1.
@@ -140,24 +133,24 @@ fn energy(b: f64, sps: u64, n: u64) -> f64
 impl Rrc {
     // The design for a roll-off, sps samples a symbol and a span of so many symbols. Refused, in this order: 5 with
     // 0.05, 1, rolloff; then as `rrc_len`, the samples first.
-    pub fn new(rolloff: f64, sps: u64, span: u64) -> RrcDesigned
+    pub fn new(rolloff: f64, sps: u64, span: u64) -> Result<Rrc, Refusal>
         ensures { result ≡ rrc_of rolloff sps span }
     {
         if !takes_rolloff(rolloff) {
-            return RrcDesigned::Refused(Refusal::Range(BAD_SHAPE, 0.05, 1.0, rolloff));
+            return Err(Refusal::Range(Reason::Shape, 0.05, 1.0, rolloff));
         }
         let length = rrc_len(sps, span);
         match length {
-            Length::Taps(n) => {
+            Ok(n) => {
                 let norm = 1.0 / math_sqrt::sqrt::sqrt(energy(rolloff, sps, n));
-                RrcDesigned::Ready(Rrc {
+                Ok(Rrc {
                     rolloff: rolloff,
                     sps: sps,
                     n: n,
                     norm: norm,
                 })
             }
-            Length::Refused(why) => RrcDesigned::Refused(why),
+            Err(why) => Err(why),
         }
     }
 
@@ -189,19 +182,19 @@ impl Rrc {
 }
 
 // The design for a buffer of `len` elements: refused as `Rrc::new`, then 8 where the taps are not `len`.
-pub fn fitted(rolloff: f64, sps: u64, span: u64, len: u64) -> RrcDesigned
+pub fn fitted(rolloff: f64, sps: u64, span: u64, len: u64) -> Result<Rrc, Refusal>
     ensures { result ≡ fitted_of (rrc_of rolloff sps span) len }
 {
     let designed = Rrc::new(rolloff, sps, span);
     match designed {
-        RrcDesigned::Ready(d) => {
+        Ok(d) => {
             let n = d.n;
             if n == len {
-                RrcDesigned::Ready(d)
+                Ok(d)
             } else {
-                RrcDesigned::Refused(Refusal::Length(n, len))
+                Err(Refusal::Length(n, len))
             }
         }
-        RrcDesigned::Refused(why) => RrcDesigned::Refused(why),
+        Err(why) => Err(why),
     }
 }

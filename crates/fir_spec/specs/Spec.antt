@@ -1,19 +1,19 @@
 -- A low-pass by its specification: cutoff, transition and attenuation at a rate. Definitions only.
 --   0 < transition,  0 < cutoff ≤ rate/2 − transition/2;  taps and beta by Kaiser's formulas, at most as many as the
 --   cap
-use Rattle.std.specs.Prelude.{ℕ, Bool, cond, ◌&&◌, eqb, ltb, Float}
+use Rattle.std.specs.Prelude.{ℕ, Bool, cond, ◌&&◌, eqb, ltb, Float, Err, Ok, Result}
 use Rattle.std.specs.Float.Ieee.{lt, le}
 use Rattle.laws.specs.Binary64.{◌⊖◌, ◌⊘◌, whole}
 use Rattle.math_numbers.specs.Numbers.{positive}
-use Rattle.verdict.specs.Numbers.{bad_rate, bad_frequency, bad_transition}
 use Rattle.verdict.specs.declared.Refusal.TheVariants as Refusal
 use Rattle.fir_length.specs.Kaiser.{order_of}
 use Rattle.fir_length.specs.declared.order.Order.{Order}
-use Rattle.verdict.specs.declared.Length.{Length}
 use Rattle.fir_lowpass.specs.Lowpass.{lowpass_of}
 use Rattle.fir_sinc.specs.declared.window.Window.TheVariants.{Kaiser}
-use Rattle.fir_lowpass.specs.declared.lowpass.Designed.{Designed}
 use Rattle.fir_spec.specs.declared.DesignSpec.{DesignSpec}
+use Rattle.fir_lowpass.specs.declared.lowpass.Lowpass.{Lowpass}
+use Rattle.verdict.specs.declared.Refusal.{Refusal}
+use Rattle.verdict.specs.declared.Reason.TheVariants as Reason
 
 unfoldable pub cutoff_taken : Float → Float → Bool
 cutoff_taken cutoff most = lt (whole 0) cutoff && le cutoff most
@@ -31,29 +31,29 @@ spec_order_of spec rate max =
     (cond (positive spec.transition)
     (cond (cutoff_taken spec.cutoff most)
     (capped_of (order_of spec.attenuation spec.transition rate) max)
-    (Order.Refused (Refusal.Range bad_frequency (whole 0) most spec.cutoff)))
-    (Order.Refused (Refusal.Range bad_transition (whole 0) (rate ⊘ whole 2) spec.transition)))
-    (Order.Refused (Refusal.Plain bad_rate))
+    (Order.Refused (Refusal.Range Reason.Frequency (whole 0) most spec.cutoff)))
+    (Order.Refused (Refusal.Range Reason.Transition (whole 0) (rate ⊘ whole 2) spec.transition)))
+    (Order.Refused (Refusal.Plain Reason.Rate))
 
 -- ---- what each answer makes of the order
-abbrev pub taps_in : Order → Length
-taps_in (Order.Taps n beta) = Length.Taps n
-taps_in (Order.Refused why) = Length.Refused why
+abbrev pub taps_in : Order → Result ℕ Refusal
+taps_in (Order.Taps n beta) = Ok n
+taps_in (Order.Refused why) = Err why
 
-abbrev pub lowpass_in : DesignSpec → Float → Order → Designed
+abbrev pub lowpass_in : DesignSpec → Float → Order → Result Lowpass Refusal
 lowpass_in spec rate (Order.Taps n beta) = lowpass_of spec.cutoff rate (Kaiser beta) n
-lowpass_in spec rate (Order.Refused why) = Designed.Refused why
+lowpass_in spec rate (Order.Refused why) = Err why
 
 -- for a buffer of len elements
-abbrev pub design_in : DesignSpec → Float → ℕ → Order → Designed
-design_in spec rate len (Order.Taps n beta) = cond (eqb n len) (lowpass_of spec.cutoff rate (Kaiser beta) n) (Designed.Refused (Refusal.Length n len))
-design_in spec rate len (Order.Refused why) = Designed.Refused why
+abbrev pub design_in : DesignSpec → Float → ℕ → Order → Result Lowpass Refusal
+design_in spec rate len (Order.Taps n beta) = cond (eqb n len) (lowpass_of spec.cutoff rate (Kaiser beta) n) (Err (Refusal.Length n len))
+design_in spec rate len (Order.Refused why) = Err why
 
-unfoldable pub num_taps_of : DesignSpec → Float → ℕ → Length
+unfoldable pub num_taps_of : DesignSpec → Float → ℕ → Result ℕ Refusal
 num_taps_of spec rate max = taps_in (spec_order_of spec rate max)
 
-unfoldable pub spec_lowpass_of : DesignSpec → Float → ℕ → Designed
+unfoldable pub spec_lowpass_of : DesignSpec → Float → ℕ → Result Lowpass Refusal
 spec_lowpass_of spec rate max = lowpass_in spec rate (spec_order_of spec rate max)
 
-unfoldable pub spec_design_of : DesignSpec → Float → ℕ → ℕ → Designed
+unfoldable pub spec_design_of : DesignSpec → Float → ℕ → ℕ → Result Lowpass Refusal
 spec_design_of spec rate max len = design_in spec rate len (spec_order_of spec rate max)

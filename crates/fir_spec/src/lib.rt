@@ -6,9 +6,9 @@ ghost use Rattle.fir_lowpass.specs.Cached.{PreparesLowpass};
 ghost use Rattle.fir_spec.specs.Spec.{cutoff_taken, capped_of, spec_order_of, num_taps_of, spec_lowpass_of, spec_design_of};
 
 use fir_length::order::{Order, kaiserord};
-use fir_lowpass::lowpass::{Designed, Lowpass, prepare};
+use fir_lowpass::lowpass::{Lowpass, prepare};
 use fir_sinc::window::Window;
-use verdict::{BAD_FREQUENCY, BAD_RATE, BAD_TRANSITION, Length, Refusal};
+use verdict::{Reason, Refusal};
 
 // The cutoff, the width of the transition around it, and the attenuation in dB beyond it.
 #[derive(Clone, Copy)]
@@ -26,38 +26,38 @@ fn takes_cutoff(cutoff: f64, most: f64) -> bool
 }
 
 // The order within the cap: 9 where it has more taps.
-fn capped(order: Order, cap: u64) -> Order
+fn capped(order: Result<Order, Refusal>, cap: u64) -> Result<Order, Refusal>
     ensures { result ≡ capped_of order cap }
 {
     match order {
         Order::Taps(n, beta) => {
             if cap < n {
-                Order::Refused(Refusal::Cap(n, cap))
+                Err(Refusal::Cap(n, cap))
             } else {
                 Order::Taps(n, beta)
             }
         }
-        Order::Refused(why) => Order::Refused(why),
+        Err(why) => Err(why),
     }
 }
 
 // Taps and beta of a specification at a rate. Refused, in this order: 1 a rate that isn't finite and positive; 3 with
 // 0, rate/2, transition where that isn't; 2 with 0, rate/2 − transition/2, cutoff where the cutoff isn't above 0 and at
 // most that; 4, 3, 3 as kaiserord; 9 more taps than the cap.
-pub fn spec_order(spec: DesignSpec, rate: f64, cap: u64) -> Order
+pub fn spec_order(spec: DesignSpec, rate: f64, cap: u64) -> Result<Order, Refusal>
     ensures { result ≡ spec_order_of spec rate cap }
 {
     if !math_numbers::is_positive(rate) {
-        return Order::Refused(Refusal::Plain(BAD_RATE));
+        return Err(Refusal::Plain(Reason::Rate));
     }
     let transition = spec.transition;
     if !math_numbers::is_positive(transition) {
-        return Order::Refused(Refusal::Range(BAD_TRANSITION, 0.0, rate / 2.0, transition));
+        return Err(Refusal::Range(Reason::Transition, 0.0, rate / 2.0, transition));
     }
     let cutoff = spec.cutoff;
     let most = rate / 2.0 - transition / 2.0;
     if !takes_cutoff(cutoff, most) {
-        return Order::Refused(Refusal::Range(BAD_FREQUENCY, 0.0, most, cutoff));
+        return Err(Refusal::Range(Reason::Frequency, 0.0, most, cutoff));
     }
     capped(kaiserord(spec.attenuation, transition, rate), cap)
 }
@@ -65,7 +65,7 @@ pub fn spec_order(spec: DesignSpec, rate: f64, cap: u64) -> Order
 // The design for a buffer of `len` elements: refused as `spec_order`, then 8 where the taps are not `len`, then as a
 // low-pass.
 // The first raw taps are left in `raws`, as many as it has places.
-pub fn spec_prepare(spec: DesignSpec, rate: f64, cap: u64, len: u64, raws: &mut [f64]) -> Designed
+pub fn spec_prepare(spec: DesignSpec, rate: f64, cap: u64, len: u64, raws: &mut [f64]) -> Result<Lowpass, Refusal>
     ensures { PreparesLowpass (spec_design_of spec rate cap len) result raws.new }
 {
     let order = spec_order(spec, rate, cap);
@@ -74,34 +74,34 @@ pub fn spec_prepare(spec: DesignSpec, rate: f64, cap: u64, len: u64, raws: &mut 
             if n == len {
                 prepare(spec.cutoff, rate, Window::Kaiser(beta), n, &mut *raws)
             } else {
-                Designed::Refused(Refusal::Length(n, len))
+                Err(Refusal::Length(n, len))
             }
         }
-        Order::Refused(why) => Designed::Refused(why),
+        Err(why) => Err(why),
     }
 }
 
 impl DesignSpec {
     // How many taps, odd: refused as `spec_order`. Example: 60 dB, transition 100, cutoff 1000 at rate 8000 needs 293,
     // so a cap of 292 gives 9.
-    pub fn num_taps(self, rate: f64, cap: u64) -> Length
+    pub fn num_taps(self, rate: f64, cap: u64) -> Result<u64, Refusal>
         ensures { result ≡ num_taps_of self rate cap }
     {
         let order = spec_order(self, rate, cap);
         match order {
-            Order::Taps(n, _) => Length::Taps(n),
-            Order::Refused(why) => Length::Refused(why),
+            Order::Taps(n, _) => Ok(n),
+            Err(why) => Err(why),
         }
     }
 
     // The design alone, of as many taps as it needs: refused as `spec_order`, then as a low-pass.
-    pub fn lowpass(self, rate: f64, cap: u64) -> Designed
+    pub fn lowpass(self, rate: f64, cap: u64) -> Result<Lowpass, Refusal>
         ensures { result ≡ spec_lowpass_of self rate cap }
     {
         let order = spec_order(self, rate, cap);
         match order {
             Order::Taps(n, beta) => Lowpass::new(self.cutoff, rate, Window::Kaiser(beta), n),
-            Order::Refused(why) => Designed::Refused(why),
+            Err(why) => Err(why),
         }
     }
 }

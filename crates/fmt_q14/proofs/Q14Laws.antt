@@ -1,6 +1,7 @@
 -- What `q14_from_f64` rests on: the two tests of the floor tell together whether the value is finite and its floor has
 -- 16 bits, and then casting the floor to an i16 gives it back. And what the outcome of one number tells. Assumes
 -- nothing.
+use Rattle.std.specs.Prelude.{Err, Ok}
 use mathlib.Core.Path.{◌≡◌, refl, sym, ap, ◌∙◌, subst}
 use mathlib.Core.Bool.{Bool, true, false, ◌&&◌, cond, true≢false}
 use Prim.Native.Nat.{ℕ, zero, suc}
@@ -15,7 +16,6 @@ use Rattle.laws.specs.Units.{nought}
 use Rattle.laws.specs.WholeValues.{signed}
 use Rattle.math_round.specs.Whole.{floor_of}
 use Rattle.verdict.specs.declared.Refusal.{Refusal}
-use Rattle.fmt_q15.specs.declared.q15.Coded.{Coded}
 use Rattle.fmt_q15.specs.Q15.{in16}
 use Rattle.fmt_q14.specs.Q14.{moved, q14_of, takes, outside, q14_tap_of}
 use Rattle.math_round.specs.FloorAs.{rounded, floor_as}
@@ -76,17 +76,17 @@ module _ (w v : Float) (e : v ≡ floor_of w) (a : le least v ≡ true) (b : le 
   floor_cut c = inner (λ v z. eq v nought ≡ false → Cut v z) cut_some c
 
 -- ---- what comes of it
-outcome : (i : ℕ) (x : Float) (t : Bool) → (finite (moved x) && in16 (floor_z (moved x))) ≡ t → cond t (Coded.Number (floor_z (moved x))) (Coded.Refused (outside i x)) ≡ q14_tap_of i x
+outcome : (i : ℕ) (x : Float) (t : Bool) → (finite (moved x) && in16 (floor_z (moved x))) ≡ t → cond t (Ok (floor_z (moved x))) (Err (outside i x)) ≡ q14_tap_of i x
 unfolding q14_tap_of takes q14_of
-outcome i x t h = ap (λ (t : Bool). cond t (Coded.Number (floor_z (moved x))) (Coded.Refused (outside i x))) (sym h)
+outcome i x t h = ap (λ (t : Bool). cond t (Ok (floor_z (moved x))) (Err (outside i x))) (sym h)
 
-pub code_number : (i : ℕ) (x v : Float) (q : ℤ) → v ≡ floor_of (moved x) → le least v ≡ true → le v most ≡ true → q ≡ floor_z (moved x) → Coded.Number q ≡ q14_tap_of i x
-code_number i x v q e a b z = ap Coded.Number z ∙ outcome i x true (taken (moved x) v e a b)
+pub code_number : (i : ℕ) (x v : Float) (q : ℤ) → v ≡ floor_of (moved x) → le least v ≡ true → le v most ≡ true → q ≡ floor_z (moved x) → Ok q ≡ q14_tap_of i x
+code_number i x v q e a b z = ap Ok z ∙ outcome i x true (taken (moved x) v e a b)
 
-pub code_low : (i : ℕ) (x v : Float) → v ≡ floor_of (moved x) → le least v ≡ false → Coded.Refused (outside i x) ≡ q14_tap_of i x
+pub code_low : (i : ℕ) (x v : Float) → v ≡ floor_of (moved x) → le least v ≡ false → Err (outside i x) ≡ q14_tap_of i x
 code_low i x v e h = outcome i x false (sym (tests (moved x) v e) ∙ ap (λ (t : Bool). t && le v most) h)
 
-pub code_high : (i : ℕ) (x v : Float) → v ≡ floor_of (moved x) → le v most ≡ false → Coded.Refused (outside i x) ≡ q14_tap_of i x
+pub code_high : (i : ℕ) (x v : Float) → v ≡ floor_of (moved x) → le v most ≡ false → Err (outside i x) ≡ q14_tap_of i x
 code_high i x v e h = outcome i x false (sym (tests (moved x) v e) ∙ ap (λ (t : Bool). le least v && t) h ∙ none (le least v))
   where
     none : (t : Bool) → (t && false) ≡ false
@@ -94,10 +94,10 @@ code_high i x v e h = outcome i x false (sym (tests (moved x) v e) ∙ ap (λ (t
     none false = refl
 
 -- ---- what the outcome of one number tells
-pub q14_number : (i : ℕ) (x : Float) (q : ℤ) → q14_tap_of i x ≡ Coded.Number q → (takes x ≡ true) × (q14_of x ≡ q)
+pub q14_number : (i : ℕ) (x : Float) (q : ℤ) → q14_tap_of i x ≡ Ok q → (takes x ≡ true) × (q14_of x ≡ q)
 unfolding q14_tap_of
 q14_number i x q e = number_tells (takes x) (q14_of x) q (outside i x) e
 
-pub q14_refused : (i : ℕ) (x : Float) (why : Refusal) → q14_tap_of i x ≡ Coded.Refused why → (takes x ≡ false) × (outside i x ≡ why)
+pub q14_refused : (i : ℕ) (x : Float) (why : Refusal) → q14_tap_of i x ≡ Err why → (takes x ≡ false) × (outside i x ≡ why)
 unfolding q14_tap_of
 q14_refused i x why e = refusal_tells (takes x) (q14_of x) (outside i x) why e

@@ -6,8 +6,7 @@ ghost use Rattle.math_round.specs.Whole.{floor_of};
 ghost use Rattle.verdict.specs.Converts.{Converts};
 ghost use Rattle.fmt_q14.specs.Q14.{moved, takes, outside, q14_of, q14_tap_of};
 
-use fmt_q15::q15::Coded;
-use verdict::{Refusal, Verdict};
+use verdict::Refusal;
 
 // The largest number that there is.
 const MOST: f64 = 2.0 - 1.0 / 16384.0;
@@ -18,7 +17,7 @@ const SMALL: f64 = 1125899906842624.0;
 // floor(16384 x + 0.5), x being element i: 11 with the index and −2, 2 − 1/16384, x where that floor isn't in −32768 to
 // 32767, or for a NaN. Nothing saturates. Example: 0.5 gives 8192, −2 gives −32768, and so does −2 − 2^−15; 2 − 2^−15
 // is refused.
-pub fn q14_from_f64(i: u64, x: f64) -> Coded
+pub fn q14_from_f64(i: u64, x: f64) -> Result<i16, Refusal>
     ensures { result ≡ q14_tap_of i x }
 {
     let w = x * 16384.0 + 0.5;
@@ -30,18 +29,18 @@ pub fn q14_from_f64(i: u64, x: f64) -> Coded
 }
 
 // The number by its floor, where that is in 16 bits. A zero stands apart because a cast takes no −0.
-fn number(i: u64, x: f64, v: f64) -> Coded
+fn number(i: u64, x: f64, v: f64) -> Result<i16, Refusal>
     requires { v ≡ floor_of (moved x) }
     ensures { result ≡ q14_tap_of i x }
 {
     if v >= -32768.0 && v <= 32767.0 {
         if v == 0.0 {
-            Coded::Number(0)
+            Ok(0)
         } else {
-            Coded::Number(v as i16)
+            Ok(v as i16)
         }
     } else {
-        Coded::Refused(Refusal::Element(i, -2.0, MOST, x))
+        Err(Refusal::Element(i, -2.0, MOST, x))
     }
 }
 
@@ -49,27 +48,27 @@ fn number(i: u64, x: f64, v: f64) -> Coded
 // sections, with the length to the last whole one and the length; 8 where the lengths differ; and then nothing is
 // written; 11 at the first number that isn't taken, counted from the first of all, and then those before it are
 // converted and the rest is as it came.
-pub fn to_q14(src: &[f64], dst: &mut [i16]) -> Verdict
+pub fn to_q14(src: &[f64], dst: &mut [i16]) -> Result<(), Refusal>
     ensures { Converts 5 takes outside q14_of src.now dst.old result dst.new }
 {
     let n = src.len();
     if n % 5 != 0 {
         let m = n as u64;
-        return Verdict::Refused(Refusal::Length(m - m % 5, m));
+        return Err(Refusal::Length(m - m % 5, m));
     }
     if n != dst.len() {
-        return Verdict::Refused(Refusal::Length(n as u64, dst.len() as u64));
+        return Err(Refusal::Length(n as u64, dst.len() as u64));
     }
     for i in 0..n {
         let coded = q14_from_f64(i as u64, src[i]);
         match coded {
-            Coded::Number(q) => {
+            Ok(q) => {
                 dst[i] = q;
             }
-            Coded::Refused(why) => {
-                return Verdict::Refused(why);
+            Err(why) => {
+                return Err(why);
             }
         }
     }
-    Verdict::Done
+    Ok(())
 }

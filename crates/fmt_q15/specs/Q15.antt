@@ -1,6 +1,6 @@
 -- Q15: a value as a whole number of 1/32768 in 16 bits. Definitions only.
 --   q = floor(32768 t + 0.5), saturated to −32768 .. 32767; sizes up to (1 − 1/32768) · 1.01 are taken
-use Rattle.std.specs.Prelude.{ℕ, min, Bool, true, false, cond, leb, ℤ, pos, negsuc, Float}
+use Rattle.std.specs.Prelude.{ℕ, min, Bool, true, false, cond, leb, ℤ, pos, negsuc, Float, Err, Ok, Result}
 use Rattle.std.specs.Float.{nan, inf, fin}
 use Rattle.std.specs.Float.Ieee.{neg, le}
 use Rattle.laws.specs.Binary64.{◌⊕◌, ◌⊖◌, ◌⊗◌, ◌⊘◌, whole, fraction}
@@ -8,7 +8,6 @@ use Rattle.laws.specs.Floor.{floor_z}
 use Rattle.verdict.specs.declared.Refusal.{Refusal}
 use Rattle.verdict.specs.declared.Refusal.TheVariants.{Element}
 use Rattle.math_round.specs.Whole.{abs_of}
-use Rattle.fmt_q15.specs.declared.q15.Coded.{Coded}
 
 -- ---- one value
 -- 32768 t + 0.5, whose floor is q
@@ -47,6 +46,6 @@ takes t = le (abs_of t) limit
 abbrev pub outside : ℕ → Float → Refusal
 outside i t = Element i (neg limit) limit t
 
-unfoldable pub q15_tap_of : ℕ → Float → Coded
+unfoldable pub q15_tap_of : ℕ → Float → Result ℤ Refusal
 unfolding takes
-q15_tap_of i t = cond (takes t) (Coded.Number (q15_of t)) (Coded.Refused (outside i t))
+q15_tap_of i t = cond (takes t) (Ok (q15_of t)) (Err (outside i t))

@@ -1,7 +1,7 @@
 -- What `q15_from_f64` rests on: each test of the floor tells whether it reaches that end of 16 bits, and between the
 -- ends casting the floor to an i16 gives it back. So the number is the floor where nothing saturates. And what the
 -- outcome of one tap tells. Assumes nothing.
-use Rattle.std.specs.Prelude.{◌≡◌, Bool, ◌&&◌, ◌||◌, cond, ℕ, zero, suc, ◌*◌, ◌≤◌, ◌<◌, min, T, leb, eqb, ℤ, Float}
+use Rattle.std.specs.Prelude.{◌≡◌, Bool, ◌&&◌, ◌||◌, cond, ℕ, zero, suc, ◌*◌, ◌≤◌, ◌<◌, min, T, leb, eqb, ℤ, Float, Err, Ok}
 use Rattle.std.proofs.Math.Path.{refl}
 use Rattle.std.proofs.Common.{sym, ap, ◌∙◌, subst, true≢false, not-suc-le-zero, le_of_suc-le-suc, le_of_lt, arith, leb-true, leb-false, eqb-true, le-leb, lit≤}
 use Rattle.std.proofs.Math.Bool.{true, false}
@@ -17,7 +17,6 @@ use Rattle.laws.specs.Units.{nought}
 use Rattle.laws.specs.WholeValues.{signed}
 use Rattle.math_round.specs.Whole.{floor_of}
 use Rattle.verdict.specs.declared.Refusal.{Refusal}
-use Rattle.fmt_q15.specs.declared.q15.Coded.{Coded}
 use Rattle.fmt_q15.specs.Q15.{moved, saturated, in16, code_in, q15_of, takes, outside, q15_tap_of}
 use Rattle.math_round.specs.FloorAs.{rounded, floor_as}
 use Rattle.fmt_q15.specs.WholeFloats.{most, least, by_sign, some, reaches, turned, Cut, cut_some, cut_none}
@@ -138,18 +137,18 @@ module _ (w v : Float) (e : v ≡ floor_of w) (u : ne w w ≡ false) (a : le mos
   code_between c = inner (λ v z. eq v nought ≡ false → Cut v z) between c
 
 -- ---- what the outcome of one tap tells
-pub number_tells : (b : Bool) (z q : ℤ) (why : Refusal) → cond b (Coded.Number z) (Coded.Refused why) ≡ Coded.Number q → (b ≡ true) × (z ≡ q)
+pub number_tells : (b : Bool) (z q : ℤ) (why : Refusal) → cond b (Ok z) (Err why) ≡ Ok q → (b ≡ true) × (z ≡ q)
 number_tells true z q why e = (refl, cc)
 number_tells false z q why e = (cc, cc)
 
-pub refusal_tells : (b : Bool) (z : ℤ) (other why : Refusal) → cond b (Coded.Number z) (Coded.Refused other) ≡ Coded.Refused why → (b ≡ false) × (other ≡ why)
+pub refusal_tells : (b : Bool) (z : ℤ) (other why : Refusal) → cond b (Ok z) (Err other) ≡ Err why → (b ≡ false) × (other ≡ why)
 refusal_tells true z other why e = (cc, cc)
 refusal_tells false z other why e = (refl, cc)
 
-pub tap_number : (i : ℕ) (t : Float) (q : ℤ) → q15_tap_of i t ≡ Coded.Number q → (takes t ≡ true) × (q15_of t ≡ q)
+pub tap_number : (i : ℕ) (t : Float) (q : ℤ) → q15_tap_of i t ≡ Ok q → (takes t ≡ true) × (q15_of t ≡ q)
 unfolding q15_tap_of
 tap_number i t q e = number_tells (takes t) (q15_of t) q (outside i t) e
 
-pub tap_refused : (i : ℕ) (t : Float) (why : Refusal) → q15_tap_of i t ≡ Coded.Refused why → (takes t ≡ false) × (outside i t ≡ why)
+pub tap_refused : (i : ℕ) (t : Float) (why : Refusal) → q15_tap_of i t ≡ Err why → (takes t ≡ false) × (outside i t ≡ why)
 unfolding q15_tap_of
 tap_refused i t why e = refusal_tells (takes t) (q15_of t) (outside i t) why e

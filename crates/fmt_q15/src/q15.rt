@@ -3,17 +3,10 @@ ghost use Rattle.std.specs.Prelude.{◌≡◌};
 ghost use Rattle.verdict.specs.Converts.{Converts};
 ghost use Rattle.fmt_q15.specs.Q15.{takes, outside, q15_of, q15_tap_of};
 
-use verdict::{Refusal, Verdict};
+use verdict::Refusal;
 
 // The largest size that is taken: a hundredth above the largest Q15 number.
 const LIMIT: f64 = (1.0 - 1.0 / 32768.0) * 1.01;
-
-// A Q15 number, or why there is none.
-#[derive(Clone, Copy)]
-pub enum Coded {
-    Number(i16),
-    Refused(Refusal),
-}
 
 // floor(32768 x + 0.5), held to −32768 and 32767; 0 for a NaN. So halves go up: 2^−16 gives 1 and −2^−16 gives 0. Zeros
 // stand apart because a cast takes no −0.
@@ -45,36 +38,36 @@ fn takes_tap(t: f64) -> bool
 
 // One tap as a Q15 number, t being element i: 11 with the index and −limit, limit, t where its size is above the limit
 // or it is a NaN.
-pub fn q15_tap(i: u64, t: f64) -> Coded
+pub fn q15_tap(i: u64, t: f64) -> Result<i16, Refusal>
     ensures { result ≡ q15_tap_of i t }
 {
     if takes_tap(t) {
-        Coded::Number(q15_from_f64(t))
+        Ok(q15_from_f64(t))
     } else {
-        Coded::Refused(Refusal::Element(i, -LIMIT, LIMIT, t))
+        Err(Refusal::Element(i, -LIMIT, LIMIT, t))
     }
 }
 
 // Converts the source element by element. Refused: 8 where the lengths differ, and then nothing is written; 11 at the
 // first element that isn't taken, and then those before it are converted and the rest is as it came. Example: 1, −1
 // gives 32767, −32768.
-pub fn to_q15(src: &[f64], dst: &mut [i16]) -> Verdict
+pub fn to_q15(src: &[f64], dst: &mut [i16]) -> Result<(), Refusal>
     ensures { Converts 1 takes outside q15_of src.now dst.old result dst.new }
 {
     let n = src.len();
     if n != dst.len() {
-        return Verdict::Refused(Refusal::Length(n as u64, dst.len() as u64));
+        return Err(Refusal::Length(n as u64, dst.len() as u64));
     }
     for i in 0..n {
         let coded = q15_tap(i as u64, src[i]);
         match coded {
-            Coded::Number(q) => {
+            Ok(q) => {
                 dst[i] = q;
             }
-            Coded::Refused(why) => {
-                return Verdict::Refused(why);
+            Err(why) => {
+                return Err(why);
             }
         }
     }
-    Verdict::Done
+    Ok(())
 }

@@ -2,18 +2,17 @@
 --   w0 = 2 π f0/fs,  c = cos w0,  alpha = sin w0 / (2 q);  a = (1 + alpha, −2 c, 1 − alpha)
 --   low-pass b = ((1 − c)/2, 1 − c, (1 − c)/2);  high-pass ((1 + c)/2, −(1 + c), (1 + c)/2);  band-pass (alpha, 0,
 --   −alpha);  notch (1, −2 c, 1)
-use Rattle.std.specs.Prelude.{Bool, false, cond, ◌&&◌, List, [], ◌∷◌, Float}
+use Rattle.std.specs.Prelude.{Bool, false, cond, ◌&&◌, List, [], ◌∷◌, Float, Err, Ok}
 use Rattle.std.specs.Float.{inf}
 use Rattle.std.specs.Float.Ieee.{neg, lt}
 use Rattle.std.specs.Float.Ieee.Scale.{finite}
 use Rattle.laws.specs.Binary64.{◌⊕◌, ◌⊖◌, ◌⊗◌, ◌⊘◌, whole, pi}
 use Rattle.math_trig.specs.Trig.{sin_of, cos_of}
-use Rattle.verdict.specs.Numbers.{bad_frequency, bad_shape}
 use Rattle.verdict.specs.declared.Refusal.TheVariants.{Range}
 use Rattle.iir_biquad.specs.declared.biquad.Response.{Response}
 use Rattle.iir_biquad.specs.declared.biquad.Response.TheVariants.{Lowpass, Highpass, Bandpass, Notch}
-use Rattle.verdict.specs.declared.Verdict.TheVariants.{Done, Refused}
 use Rattle.iir_biquad.specs.declared.biquad.Biquad.{Biquad}
+use Rattle.verdict.specs.declared.Reason.TheVariants as Reason
 
 -- ---- the judgement
 unfoldable pub centre_taken : Float → Float → Bool
@@ -55,6 +54,6 @@ biquad_of r centre q rate =
     let w0 = w0_of centre rate in
     cond (centre_taken centre rate)
     (cond (quality_taken q)
-    (record { coefs = section_of r (cos_of w0) (sin_of w0 ⊘ (whole 2 ⊗ q)); verdict = Done })
-    (record { coefs = zeros; verdict = Refused (Range bad_shape (whole 0) (inf false) q) }))
-    (record { coefs = zeros; verdict = Refused (Range bad_frequency (whole 0) (rate ⊘ whole 2) centre) })
+    (record { coefs = section_of r (cos_of w0) (sin_of w0 ⊘ (whole 2 ⊗ q)); verdict = Ok tt })
+    (record { coefs = zeros; verdict = Err (Range Reason.Shape (whole 0) (inf false) q) }))
+    (record { coefs = zeros; verdict = Err (Range Reason.Frequency (whole 0) (rate ⊘ whole 2) centre) })

@@ -3,7 +3,7 @@ ghost use Rattle.std.specs.Prelude.{◌≡◌};
 ghost use Rattle.iir_biquad.specs.Biquad.{centre_taken, quality_taken, section_of, biquad_of};
 
 use math_numbers::PI;
-use verdict::{BAD_FREQUENCY, BAD_SHAPE, Refusal, Verdict};
+use verdict::{Reason, Refusal};
 
 // What a section lets through.
 #[derive(Clone, Copy)]
@@ -18,7 +18,7 @@ pub enum Response {
 #[derive(Clone, Copy)]
 pub struct Biquad {
     pub coefs: [f64; 5],
-    pub verdict: Verdict,
+    pub verdict: Result<(), Refusal>,
 }
 
 // Whether a centre lies between 0 and half of a finite rate.
@@ -71,14 +71,14 @@ pub fn biquad_coefs(response: Response, centre: f64, q: f64, rate: f64) -> Biqua
     if !takes_centre(centre, rate) {
         return Biquad {
             coefs: [0.0, 0.0, 0.0, 0.0, 0.0],
-            verdict: Verdict::Refused(Refusal::Range(BAD_FREQUENCY, 0.0, rate / 2.0, centre)),
+            verdict: Err(Refusal::Range(Reason::Frequency, 0.0, rate / 2.0, centre)),
         };
     }
     if !takes_quality(q) {
         let inf = 1.0 / 0.0;
         return Biquad {
             coefs: [0.0, 0.0, 0.0, 0.0, 0.0],
-            verdict: Verdict::Refused(Refusal::Range(BAD_SHAPE, 0.0, inf, q)),
+            verdict: Err(Refusal::Range(Reason::Shape, 0.0, inf, q)),
         };
     }
     let w0 = 2.0 * PI * centre / rate;
@@ -86,6 +86,6 @@ pub fn biquad_coefs(response: Response, centre: f64, q: f64, rate: f64) -> Biqua
     let alpha = math_trig::sin::sin(w0) / (2.0 * q);
     Biquad {
         coefs: section(response, c, alpha),
-        verdict: Verdict::Done,
+        verdict: Ok(()),
     }
 }

@@ -3,13 +3,13 @@ ghost use Rattle.std.specs.Prelude.{◌≡◌};
 ghost use Rattle.iir_biquad.specs.Preemphasis.{constant_taken, rate_taken, preemphasis_of};
 
 use math_numbers::PI;
-use verdict::{BAD_RATE, BAD_SHAPE, Refusal, Verdict};
+use verdict::{Reason, Refusal};
 
 // b0, b1, a1 with a0 = 1; zeros where refused.
 #[derive(Clone, Copy)]
 pub struct Preemphasis {
     pub coefs: [f64; 3],
-    pub verdict: Verdict,
+    pub verdict: Result<(), Refusal>,
 }
 
 // Whether a time constant is above 0 and at most a millisecond.
@@ -35,14 +35,14 @@ pub fn preemphasis_coefs(tau: f64, rate: f64) -> Preemphasis
     if !takes_constant(tau) {
         return Preemphasis {
             coefs: [0.0, 0.0, 0.0],
-            verdict: Verdict::Refused(Refusal::Range(BAD_SHAPE, 0.0, 0.001, tau)),
+            verdict: Err(Refusal::Range(Reason::Shape, 0.0, 0.001, tau)),
         };
     }
     if !takes_rate(rate) {
         let inf = 1.0 / 0.0;
         return Preemphasis {
             coefs: [0.0, 0.0, 0.0],
-            verdict: Verdict::Refused(Refusal::Range(BAD_RATE, 40000.0, inf, rate)),
+            verdict: Err(Refusal::Range(Reason::Rate, 40000.0, inf, rate)),
         };
     }
     let pole = 1.0 / (2.0 * PI * (rate / 2.4));
@@ -54,6 +54,6 @@ pub fn preemphasis_coefs(tau: f64, rate: f64) -> Preemphasis
             (1.0 - k * tau) / den,
             (1.0 - k * pole) / den,
         ],
-        verdict: Verdict::Done,
+        verdict: Ok(()),
     }
 }

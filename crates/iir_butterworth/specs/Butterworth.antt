@@ -7,12 +7,12 @@ use Rattle.std.specs.Float.{nan}
 use Rattle.std.specs.Float.Ieee.{neg}
 use Rattle.laws.specs.Binary64.{◌⊕◌, ◌⊖◌, ◌⊗◌, ◌⊘◌, whole, pi}
 use Rattle.math_trig.specs.Trig.{sin_of, cos_of}
-use Rattle.verdict.specs.Numbers.{bad_frequency, bad_count, bad_code}
 use Rattle.verdict.specs.declared.Refusal.TheVariants.{Plain, Range, Length}
 use Rattle.verdict.specs.Outcome.{Outcome}
 use Rattle.iir_biquad.specs.Biquad.{centre_taken, w0_of, zeros, biquad_of}
 use Rattle.iir_biquad.specs.declared.biquad.Response.{Response}
 use Rattle.iir_biquad.specs.declared.biquad.Response.TheVariants.{Lowpass, Highpass, Bandpass, Notch}
+use Rattle.verdict.specs.declared.Reason.TheVariants as Reason
 
 -- ---- the judgement
 unfoldable pub response_taken : Response → Bool
@@ -67,7 +67,7 @@ butterworth_of r order cutoff rate len =
     (cond (eqb len (sections_of order * 5))
     (cond (centre_taken cutoff rate)
     (Outcome.Designed len (whole 0) (coef_at r order cutoff rate))
-    (Outcome.Refused (Range bad_frequency (whole 0) (rate ⊘ whole 2) cutoff)))
+    (Outcome.Refused (Range Reason.Frequency (whole 0) (rate ⊘ whole 2) cutoff)))
     (Outcome.Refused (Length (sections_of order * 5) len)))
-    (Outcome.Refused (Plain bad_count)))
-    (Outcome.Refused (Plain bad_code))
+    (Outcome.Refused (Plain Reason.Count)))
+    (Outcome.Refused (Plain Reason.Code))

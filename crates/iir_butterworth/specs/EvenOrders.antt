@@ -6,12 +6,12 @@ use Rattle.std.proofs.Math.Path.{fun_ext}
 use Rattle.std.specs.Float.{nan}
 use Rattle.laws.specs.Binary64.{◌⊖◌, ◌⊗◌, ◌⊘◌, whole, pi}
 use Rattle.math_trig.specs.Trig.{cos_of}
-use Rattle.verdict.specs.Numbers.{bad_frequency, bad_count, bad_code}
 use Rattle.verdict.specs.declared.Refusal.TheVariants.{Plain, Range, Length}
 use Rattle.verdict.specs.Outcome.{Outcome}
 use Rattle.iir_biquad.specs.Biquad.{centre_taken, biquad_of}
 use Rattle.iir_biquad.specs.declared.biquad.Response.{Response}
 use Rattle.iir_butterworth.specs.Butterworth.{response_taken, order_taken, sections_of, angle_of, quality_of, section_at, coef_at, butterworth_of}
+use Rattle.verdict.specs.declared.Reason.TheVariants as Reason
 
 -- ---- even orders alone: order/2 sections, section k = 1 .. with the quality 1 / (2 cos((2 k − 1) π / (2 order)))
 abbrev even_taken : ℕ → Bool
@@ -30,10 +30,10 @@ even_of r order cutoff rate len =
     (cond (eqb len (order / 2 * 5))
     (cond (centre_taken cutoff rate)
     (Outcome.Designed len (whole 0) (even_at r order cutoff rate))
-    (Outcome.Refused (Range bad_frequency (whole 0) (rate ⊘ whole 2) cutoff)))
+    (Outcome.Refused (Range Reason.Frequency (whole 0) (rate ⊘ whole 2) cutoff)))
     (Outcome.Refused (Length (order / 2 * 5) len)))
-    (Outcome.Refused (Plain bad_count)))
-    (Outcome.Refused (Plain bad_code))
+    (Outcome.Refused (Plain Reason.Count)))
+    (Outcome.Refused (Plain Reason.Code))
 
 -- ---- an even order has these numbers, each of them
 even_numbers : (r : Response) (order : ℕ) (cutoff rate : Float) → order % 2 ≡ 0 → coef_at r order cutoff rate ≡ even_at r order cutoff rate
@@ -47,7 +47,7 @@ others_kept r order cutoff rate len not3 not5 not7 = go (leb 2 order) (leb order
   where
     -- what comes of an order that is taken or not, with n numbers
     by : Bool → ℕ → (ℕ → Float) → Outcome
-    by taken n numbers = cond (response_taken r) (cond taken (cond (eqb len n) (cond (centre_taken cutoff rate) (Outcome.Designed len (whole 0) numbers) (Outcome.Refused (Range bad_frequency (whole 0) (rate ⊘ whole 2) cutoff))) (Outcome.Refused (Length n len))) (Outcome.Refused (Plain bad_count))) (Outcome.Refused (Plain bad_code))
+    by taken n numbers = cond (response_taken r) (cond taken (cond (eqb len n) (cond (centre_taken cutoff rate) (Outcome.Designed len (whole 0) numbers) (Outcome.Refused (Range Reason.Frequency (whole 0) (rate ⊘ whole 2) cutoff))) (Outcome.Refused (Length n len))) (Outcome.Refused (Plain Reason.Count))) (Outcome.Refused (Plain Reason.Code))
 
     go : (a b : Bool) → (a ≡ true → 2 ≤ order) → (b ≡ true → order ≤ 8) → by (a && b) (sections_of order * 5) (coef_at r order cutoff rate) ≡ by (a && (b && eqb (order % 2) 0)) (order / 2 * 5) (even_at r order cutoff rate)
     go true true least most =

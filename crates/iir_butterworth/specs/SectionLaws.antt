@@ -1,6 +1,6 @@
 -- Laws of sections: every section has five numbers, they are stored one after the other, and every quality of a
 -- Butterworth filter is taken. Assumes nothing.
-use Rattle.std.specs.Prelude.{ℕ, zero, suc, ◌+◌, ◌*◌, ◌/◌, ◌%◌, ◌<◌, ◌≤◌, ◌≡◌, refl, Bool, true, false, cond, List, [], ◌∷◌, leb, eqb, length, set, take, get_or, Float}
+use Rattle.std.specs.Prelude.{ℕ, zero, suc, ◌+◌, ◌*◌, ◌/◌, ◌%◌, ◌<◌, ◌≤◌, ◌≡◌, refl, Bool, true, false, cond, List, [], ◌∷◌, leb, eqb, length, set, take, get_or, Float, Err, Ok}
 use Rattle.std.proofs.Common.{sym, ap, ◌∙◌, not-suc-le-zero, le_of_suc-le-suc, zero-lt-suc, arith, leb-true, eqb-true}
 use Rattle.std.proofs.Math.Nat.{suc-le-suc_iff}
 use Rattle.std.proofs.lemmas.List.Edits.{sets}
@@ -13,18 +13,16 @@ use Rattle.laws.specs.Floor.{floor_z}
 use Rattle.laws.specs.Tests.{both}
 use Rattle.math_round.specs.Whole.{floor_of, abs_of, as_float}
 use Rattle.math_trig.specs.Trig.{sin_of, cos_of}
-use Rattle.verdict.specs.Numbers.{bad_frequency, bad_count, bad_code}
 use Rattle.verdict.specs.Outcome.{Outcome, answered}
-use Rattle.verdict.specs.declared.Verdict.TheVariants as Verdict
 use Rattle.verdict.specs.declared.Refusal.{Refusal}
 use Rattle.verdict.specs.declared.Refusal.TheVariants.{Plain, Range, Length}
 use Rattle.iir_biquad.specs.Biquad.{centre_taken, quality_taken, w0_of, section_of, biquad_of}
 use Rattle.iir_butterworth.specs.Butterworth.{response_taken, order_taken, sections_of, angle_of, quality_of, first_order_of, section_at, coef_at, butterworth_of}
 use Rattle.iir_biquad.specs.declared.biquad.Response.{Response}
 use Rattle.iir_biquad.specs.declared.biquad.Response.TheVariants.{Lowpass, Highpass, Bandpass, Notch}
-use Rattle.verdict.specs.declared.Verdict.TheVariants.{Done}
 use Rattle.iir_biquad.specs.declared.biquad.Biquad.{Biquad}
 use Rattle.laws.specs.Cases.{either_way}
+use Rattle.verdict.specs.declared.Reason.TheVariants as Reason
 
 -- ---- a list stored into another, one element more
 module _ {A : Type 0} where
@@ -116,18 +114,18 @@ quality_taken_lem order i t h =
     every_at (order / 2) (λ k. quality_taken (quality_of order k)) (every_at 9 (λ n. every (n / 2) (λ k. quality_taken (quality_of n k))) sixteen order (omega arith)) i (omega arith)
 
 -- so each section of two poles is the section of its quality, and none is refused
-pub never_refused : (r : Response) (order i : ℕ) (cutoff rate : Float) → order_taken order ≡ true → 2 * i + 2 ≤ order → centre_taken cutoff rate ≡ true → let w0 = w0_of cutoff rate in biquad_of r cutoff (quality_of order i) rate ≡ record { coefs = section_of r (cos_of w0) (sin_of w0 ⊘ (whole 2 ⊗ quality_of order i)); verdict = Done }
+pub never_refused : (r : Response) (order i : ℕ) (cutoff rate : Float) → order_taken order ≡ true → 2 * i + 2 ≤ order → centre_taken cutoff rate ≡ true → let w0 = w0_of cutoff rate in biquad_of r cutoff (quality_of order i) rate ≡ record { coefs = section_of r (cos_of w0) (sin_of w0 ⊘ (whole 2 ⊗ quality_of order i)); verdict = Ok tt }
 unfolding biquad_of
 never_refused r order i cutoff rate t h c = rw (c, quality_taken_lem order i t h)
 
 -- ---- the outcome, from what the tests so far said
 module _ (r : Response) (order : ℕ) (cutoff rate : Float) (len : ℕ) where
-  pub no_response : response_taken r ≡ false → butterworth_of r order cutoff rate len ≡ Outcome.Refused (Plain bad_code)
+  pub no_response : response_taken r ≡ false → butterworth_of r order cutoff rate len ≡ Outcome.Refused (Plain Reason.Code)
   unfolding butterworth_of
   no_response a = rw a
 
   module _ (a : response_taken r ≡ true) where
-    pub no_order : order_taken order ≡ false → butterworth_of r order cutoff rate len ≡ Outcome.Refused (Plain bad_count)
+    pub no_order : order_taken order ≡ false → butterworth_of r order cutoff rate len ≡ Outcome.Refused (Plain Reason.Count)
     unfolding butterworth_of
     no_order b = rw (a, b)
 
@@ -137,7 +135,7 @@ module _ (r : Response) (order : ℕ) (cutoff rate : Float) (len : ℕ) where
       no_length c = rw (a, b, c)
 
       module _ (c : eqb len (sections_of order * 5) ≡ true) where
-        pub no_centre : centre_taken cutoff rate ≡ false → butterworth_of r order cutoff rate len ≡ Outcome.Refused (Range bad_frequency (whole 0) (rate ⊘ whole 2) cutoff)
+        pub no_centre : centre_taken cutoff rate ≡ false → butterworth_of r order cutoff rate len ≡ Outcome.Refused (Range Reason.Frequency (whole 0) (rate ⊘ whole 2) cutoff)
         unfolding butterworth_of
         no_centre e = rw (a, b, c, e)
 
@@ -151,10 +149,10 @@ pub record Right (r : Response) (order : ℕ) (cutoff rate : Float) (len : ℕ) 
   pub count : len ≡ sections_of order * 5
   pub is : butterworth_of r order cutoff rate len ≡ Outcome.Designed len (whole 0) (coef_at r order cutoff rate)
 
-never : (why : Refusal) → Verdict.Done ≡ Verdict.Refused why → ⊥
+never : (why : Refusal) → (Ok tt) ≡ Err why → ⊥
 never why e = let z : ◌≡◌ {A = ℕ} 0 1 = cc in omega arith
 
-pub right : (r : Response) (order : ℕ) (cutoff rate : Float) (len : ℕ) → Verdict.Done ≡ answered (butterworth_of r order cutoff rate len) → Right r order cutoff rate len
+pub right : (r : Response) (order : ℕ) (cutoff rate : Float) (len : ℕ) → (Ok tt) ≡ answered (butterworth_of r order cutoff rate len) → Right r order cutoff rate len
 unfolding butterworth_of
 right r order cutoff rate len e =
     let t = go (response_taken r) (order_taken order) (eqb len (sections_of order * 5)) (centre_taken cutoff rate) (order_is order) (eqb-true len (sections_of order * 5)) e in
@@ -167,9 +165,9 @@ right r order cutoff rate len e =
     is = Outcome.Designed len (whole 0) (coef_at r order cutoff rate)
 
     by : Bool → Bool → Bool → Bool → Outcome
-    by a b c d = cond a (cond b (cond c (cond d is (Outcome.Refused (Range bad_frequency (whole 0) (rate ⊘ whole 2) cutoff))) (Outcome.Refused (Length n len))) (Outcome.Refused (Plain bad_count))) (Outcome.Refused (Plain bad_code))
+    by a b c d = cond a (cond b (cond c (cond d is (Outcome.Refused (Range Reason.Frequency (whole 0) (rate ⊘ whole 2) cutoff))) (Outcome.Refused (Length n len))) (Outcome.Refused (Plain Reason.Count))) (Outcome.Refused (Plain Reason.Code))
 
-    go : (a b c d : Bool) → (b ≡ true → OrderIs order) → (c ≡ true → len ≡ n) → Verdict.Done ≡ answered (by a b c d) → OrderIs order × (len ≡ n) × (by a b c d ≡ is)
+    go : (a b c d : Bool) → (b ≡ true → OrderIs order) → (c ≡ true → len ≡ n) → (Ok tt) ≡ answered (by a b c d) → OrderIs order × (len ≡ n) × (by a b c d ≡ is)
     go true true true true p q e = (p refl, q refl, refl)
     go true true true false p q e = absurd (never _ e)
     go true true false d p q e = absurd (never _ e)
@@ -177,6 +175,6 @@ right r order cutoff rate len e =
     go false b c d p q e = absurd (never _ e)
 
 -- ---- one that is refused
-pub turned : (why : Refusal) (o : Outcome) → Verdict.Refused why ≡ answered o → o ≡ Outcome.Refused why
+pub turned : (why : Refusal) (o : Outcome) → Err why ≡ answered o → o ≡ Outcome.Refused why
 turned why (Outcome.Designed n sum tap) e = absurd (never why (sym e))
 turned why (Outcome.Refused other) e = cc

@@ -10,7 +10,7 @@ ghost use Rattle.iir_butterworth.specs.Butterworth.{response_taken, order_taken,
 
 use iir_biquad::biquad::{Response, takes_centre};
 use section::section_at;
-use verdict::{BAD_CODE, BAD_COUNT, BAD_FREQUENCY, Refusal, Verdict};
+use verdict::{Reason, Refusal};
 
 // Whether a cascade has this response: low-pass or high-pass.
 fn takes_response(response: Response) -> bool
@@ -52,23 +52,23 @@ fn put_section(sos: &mut [f64], at: usize, coefs: [f64; 5])
 // Whether a filter is taken, for a buffer of `len` elements. Refused, in this order: 7 a response that is neither
 // low-pass nor high-pass; 6 an order below 2 or above 8; 8 where the buffer hasn't five elements a section; 2 with 0,
 // rate/2, cutoff as `biquad_coefs`. 5 can't come: every quality is finite and positive.
-pub fn judge(response: Response, order: u64, cutoff: f64, rate: f64, len: u64) -> Verdict
+pub fn judge(response: Response, order: u64, cutoff: f64, rate: f64, len: u64) -> Result<(), Refusal>
     ensures { result ≡ answered (butterworth_of response order cutoff rate len) }
 {
     if !takes_response(response) {
-        return Verdict::Refused(Refusal::Plain(BAD_CODE));
+        return Err(Refusal::Plain(Reason::Code));
     }
     if !takes_order(order) {
-        return Verdict::Refused(Refusal::Plain(BAD_COUNT));
+        return Err(Refusal::Plain(Reason::Count));
     }
     let expected = sections(order) * 5;
     if len != expected {
-        return Verdict::Refused(Refusal::Length(expected, len));
+        return Err(Refusal::Length(expected, len));
     }
     if !takes_centre(cutoff, rate) {
-        return Verdict::Refused(Refusal::Range(BAD_FREQUENCY, 0.0, rate / 2.0, cutoff));
+        return Err(Refusal::Range(Reason::Frequency, 0.0, rate / 2.0, cutoff));
     }
-    Verdict::Done
+    Ok(())
 }
 
 // Fills the buffer with the sections, five numbers each, the lowest quality first and that of first order last. Refused
@@ -79,19 +79,19 @@ pub fn butterworth_sos(
     cutoff: f64,
     rate: f64,
     sos: &mut [f64],
-) -> Verdict
+) -> Result<(), Refusal>
     ensures { Fills (butterworth_of response order cutoff rate (length sos.old)) sos.old result sos.new }
 {
     let judged = judge(response, order, cutoff, rate, sos.len() as u64);
     match judged {
-        Verdict::Done => {
+        Ok(()) => {
             let count = sections(order) as usize;
             for i in 0..count {
                 let coefs = section_at(response, order, i as u64, cutoff, rate);
                 put_section(&mut *sos, 5 * i, coefs);
             }
-            Verdict::Done
+            Ok(())
         }
-        Verdict::Refused(why) => Verdict::Refused(why),
+        Err(why) => Err(why),
     }
 }

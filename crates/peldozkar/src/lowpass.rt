@@ -1,8 +1,7 @@
 // Low-passes: judged, and their taps in a buffer; by a window's code, a loaded window, a specification or a
 // channelizer's edges.
-ghost use Rattle.std.specs.Prelude.{◌≡◌, length};
+ghost use Rattle.std.specs.Prelude.{◌≡◌, length, Some};
 ghost use Rattle.fir_sinc.specs.declared.window.Window.TheVariants as Window;
-ghost use Rattle.ticket_codes.specs.declared.Coded.TheVariants.{Known};
 ghost use Rattle.fir_lowpass.specs.Lowpass.{outcome_of};
 ghost use Rattle.verdict.specs.Reports.{outcome_report, length_report};
 ghost use Rattle.c_lowpass.specs.Lowpass.{lowpass_coded, lowpass_bytes};
@@ -26,7 +25,7 @@ pub extern "C" fn pel_lowpass_cosines_new(
     window: Cosines,
     taps: u64,
 ) -> Report
-    ensures { result ≡ outcome_report (outcome_of (lowpass_coded cutoff rate (Known (Window.Cosines window)) taps)) }
+    ensures { result ≡ outcome_report (outcome_of (lowpass_coded cutoff rate (Some (Window.Cosines window)) taps)) }
 {
     c_lowpass::cosines::pel_lowpass_cosines_new(cutoff, rate, window, taps)
 }
@@ -40,7 +39,7 @@ pub extern "C" fn pel_lowpass_cosines(
     window: Cosines,
     out: &mut [u8],
 ) -> Report
-    ensures { Writes float_bytes (lowpass_bytes cutoff rate (Known (Window.Cosines window)) (length out.old)) out.old result out.new }
+    ensures { Writes float_bytes (lowpass_bytes cutoff rate (Some (Window.Cosines window)) (length out.old)) out.old result out.new }
 {
     c_lowpass::cosines::pel_lowpass_cosines(cutoff, rate, window, &mut *out)
 }

@@ -1,11 +1,10 @@
 // A window of cosines loaded, and a low-pass with it: demands 1 and 3, also after a conversion to Q15; and that Hann's,
 // Hamming's and Blackman's numbers are taken and give what their codes give.
-ghost use Rattle.std.specs.Prelude.{length};
+ghost use Rattle.std.specs.Prelude.{length, Some};
 ghost use Rattle.verdict.specs.Outcome.{answered};
 ghost use Rattle.wire.specs.Bytes.{float_bytes};
 ghost use Rattle.fir_sinc.specs.declared.window.Window.TheVariants as Window;
 ghost use Rattle.fir_lowpass.specs.Lowpass as Lowpass;
-ghost use Rattle.ticket_codes.specs.declared.Coded.TheVariants.{Known};
 ghost use Rattle.c_lowpass.specs.Lowpass.{lowpass_coded, lowpass_bytes};
 ghost use Rattle.promise_refusals.specs.Demand.{Numbered, FilledOrKept, LoadedOrNone};
 ghost use Rattle.promise_totals.specs.Written.{Totals};
@@ -26,7 +25,7 @@ pub fn load_cosines(src: &[u8]) -> Loaded
 }
 
 pub fn lowpass_cosines(cutoff: f64, rate: f64, window: Cosines, out: &mut [u8]) -> Report
-    ensures filled_or_kept { FilledOrKept float_bytes (lowpass_bytes cutoff rate (Known (Window.Cosines window)) (length out.old)) out.old result out.new }
+    ensures filled_or_kept { FilledOrKept float_bytes (lowpass_bytes cutoff rate (Some (Window.Cosines window)) (length out.old)) out.old result out.new }
     ensures totals { Totals result out.new }
     ensures writes_built_ins { WritesBuiltIns cutoff rate window out.old result out.new }
 {
@@ -34,7 +33,7 @@ pub fn lowpass_cosines(cutoff: f64, rate: f64, window: Cosines, out: &mut [u8]) 
 }
 
 pub fn lowpass_cosines_new(cutoff: f64, rate: f64, window: Cosines, taps: u64) -> Report
-    ensures { Numbered (answered (Lowpass.outcome_of (lowpass_coded cutoff rate (Known (Window.Cosines window)) taps))) result.number }
+    ensures { Numbered (answered (Lowpass.outcome_of (lowpass_coded cutoff rate (Some (Window.Cosines window)) taps))) result.number }
 {
     c_lowpass::cosines::pel_lowpass_cosines_new(cutoff, rate, window, taps)
 }

@@ -1,6 +1,6 @@
 -- A record on a card whose ticket meets every premise of the totals, so that what they promise of tickets is not empty:
 -- a Hann low-pass of five taps, cutoff 0.25 at the rate 1. Assumes nothing.
-use Rattle.std.specs.Prelude.{◌≡◌, refl, List, ◌++◌, ℕ, T, length, Float}
+use Rattle.std.specs.Prelude.{◌≡◌, refl, List, ◌++◌, ℕ, T, length, Float, Some}
 use Rattle.std.proofs.Common.{sym, ap, ◌∙◌, subst, arith}
 use Rattle.std.specs.Float.Ieee.{of_bits, of_int, round}
 use Rattle.laws.specs.Binary64.{whole, fraction}
@@ -8,7 +8,6 @@ use Rattle.wire.specs.Bytes.{bytes_of, number_of}
 use Rattle.verdict.specs.Outcome.{Outcome}
 use Rattle.fir_sinc.specs.declared.window.Window.TheVariants as Window
 use Rattle.ticket_codes.specs.Codes.{window_of}
-use Rattle.ticket_codes.specs.declared.Coded.TheVariants.{Known}
 use Rattle.ticket_kinds.specs.Kinds.{field_count, window_taken, ticket_of}
 use Rattle.ticket_kinds.specs.declared.TicketWindow.TheVariants.{Hann}
 use Rattle.ticket_kinds.specs.declared.Ticket.{Ticket}
@@ -47,7 +46,7 @@ at_one = refl
 
 same : ticket_bytes five 40 ≡ lowpass_ticket 40
 unfolding ticket_outcome window_of
-same = ap (λ (x : Float). lowpass_bytes x (float one) (Known Window.Hann) 40) at_quarter ∙ ap (λ (x : Float). lowpass_bytes (fraction 1 4) x (Known Window.Hann) 40) at_one
+same = ap (λ (x : Float). lowpass_bytes x (float one) (Some Window.Hann) 40) at_quarter ∙ ap (λ (x : Float). lowpass_bytes (fraction 1 4) x (Some Window.Hann) 40) at_one
 
 pub five_stands : (before : List ℕ) → length before ≡ 40 → Stands (ticket_bytes five (length before)) before
 five_stands before e =

@@ -1,10 +1,8 @@
 -- Demand 1 of the reader, in its own words: what a caller of `pel_read_ticket` and of `pel_check_card` holds
 -- afterwards. Definitions only.
-use Rattle.std.specs.Prelude.{ℕ, ◌<◌, ◌≡◌, List, length, drop}
-use Rattle.verdict.specs.declared.Verdict.{Verdict}
+use Rattle.std.specs.Prelude.{ℕ, ◌<◌, ◌≡◌, List, length, drop, Err, Ok, Result}
 use Rattle.ticket_kinds.specs.Kinds.{numbers_of, formed_of}
 use Rattle.ticket_kinds.specs.declared.Ticket.{Ticket}
-use Rattle.ticket_kinds.specs.declared.numbers.Formed.TheVariants.{Known}
 use Rattle.ticket_card.specs.declared.Reading.{Reading}
 use Rattle.ticket_card.specs.declared.Reading.TheVariants.{Read, Refused}
 use Rattle.ticket_card.specs.Card.{read_of}
@@ -13,10 +11,11 @@ use Rattle.c_card.specs.Cards.{no_ticket, told_of}
 use Rattle.c_card.specs.declared.reading.TicketRead.{TicketRead}
 use Rattle.c_card.specs.declared.reading.CardChecked.{CardChecked}
 use Rattle.promise_refusals.specs.Demand.{Numbered}
+use Rattle.verdict.specs.declared.Refusal.{Refusal}
 
-abbrev pub of_reading : Reading → Verdict
-of_reading (Read t k) = Verdict.Done
-of_reading (Refused why) = Verdict.Refused why
+abbrev pub of_reading : Reading → Result (Unit {0}) Refusal
+of_reading (Read t k) = Ok tt
+of_reading (Refused why) = Err why
 
 -- a ticket that the bytes s hold: its numbers are those told, which are taken for that very ticket again, and the
 -- record takes as many bytes as told
@@ -24,7 +23,7 @@ pub record Held (s : List ℕ) (r : TicketRead) : Type 0 where
   pub ticket : Ticket
   pub read : read_of s ≡ Read ticket r.report.count
   pub numbers : r.ticket ≡ numbers_of ticket
-  pub again : formed_of r.ticket ≡ Known ticket
+  pub again : formed_of r.ticket ≡ Ok ticket
 
 -- a ticket whole, or none and a number
 pub record ReadOrNone (s : List ℕ) (r : TicketRead) : Type 0 where
@@ -36,7 +35,7 @@ pub record ReadOrNone (s : List ℕ) (r : TicketRead) : Type 0 where
 -- refused as `pel_read_ticket` refuses the bytes from there on
 pub record CheckedCard (s : List ℕ) (r : CardChecked) : Type 0 where
   pub held : List Ticket
-  pub ended : Verdict
+  pub ended : Result (Unit {0}) Refusal
   pub reads : CardReads s held r.place ended
   pub tickets : r.tickets ≡ length held
   pub told : Numbered ended r.report.number

@@ -1,11 +1,10 @@
 -- Demand 1 of the reader from what its exports ensure. Assumes nothing.
-use Rattle.std.specs.Prelude.{ℕ, ◌<◌, ◌≡◌, refl, Bool, true, false, cond, List, T, eqb, ltb, leb, length, drop, get_or}
+use Rattle.std.specs.Prelude.{ℕ, ◌<◌, ◌≡◌, refl, Bool, true, false, cond, List, T, eqb, ltb, leb, length, drop, get_or, Err, Ok, Result}
 use Rattle.std.proofs.Common.{sym, ap, ◌∙◌, subst}
 use Rattle.laws.specs.Cases.{either_way}
 use Rattle.verdict.specs.Report.{report_of, accepted_of}
 use Rattle.verdict.specs.Reports.{done_report}
 use Rattle.verdict.specs.declared.Report.{Report}
-use Rattle.verdict.specs.declared.Verdict.{Verdict}
 use Rattle.ticket_kinds.specs.Kinds.{window_of, has_code, window_code, field_count, window_taken, ticket_of}
 use Rattle.ticket_kinds.specs.KindsLaws.{formed_back}
 use Rattle.ticket_kinds.specs.declared.Ticket.{Ticket}
@@ -23,6 +22,7 @@ use Rattle.promise_refusals.specs.Listed.{Listed}
 use Rattle.promise_refusals.proofs.ListedLaws.{never_zero, numbered, done_heard}
 use Rattle.promise_card.specs.Reads.{of_reading, Held, ReadOrNone, CheckedCard}
 use Rattle.promise_card.specs.Whole.{whole_card, broken_card}
+use Rattle.verdict.specs.declared.Refusal.{Refusal}
 
 -- ---- every refusal of the reader has one of the numbers
 abbrev ReadListed : Reading → Type 0
@@ -86,9 +86,9 @@ read_or_none s {r} e = subst (ReadOrNone s) (sym e) (record {
     zeroed (Refused why) h = refl
 
 -- ---- `pel_check_card`
-ended_listed : {d : List ℕ} {ts : List Ticket} {at : ℕ} (v : Verdict) → CardReads d ts at v → Listed v
-ended_listed Verdict.Done r = tt
-ended_listed {d} {at = at} (Verdict.Refused why) r = subst ReadListed (broken_card why r refl).1 (read_listed (drop at d))
+ended_listed : {d : List ℕ} {ts : List Ticket} {at : ℕ} (v : Result (Unit {0}) Refusal) → CardReads d ts at v → Listed v
+ended_listed (Ok tt) r = tt
+ended_listed {d} {at = at} (Err why) r = subst ReadListed (broken_card why r refl).1 (read_listed (drop at d))
 
 pub checked_card : (s : List ℕ) {r : CardChecked} → ChecksCard s r → CheckedCard s r
 unfolding accepted_of
@@ -106,12 +106,12 @@ checked_card s {r} c =
       broken = λ h. broken (length c.held) v c.reads c.report (λ z. h (heard ∙ z));
     }
   where
-    whole : {ts : List Ticket} {at : ℕ} (n : ℕ) (v : Verdict) → Listed v → CardReads s ts at v → (done_report n v).number ≡ 0 → at ≡ length s
-    whole n Verdict.Done l reads z = whole_card reads refl
-    whole n (Verdict.Refused why) l reads z = absurd (never_zero (report_of why).number l z)
+    whole : {ts : List Ticket} {at : ℕ} (n : ℕ) (v : Result (Unit {0}) Refusal) → Listed v → CardReads s ts at v → (done_report n v).number ≡ 0 → at ≡ length s
+    whole n (Ok tt) l reads z = whole_card reads refl
+    whole n (Err why) l reads z = absurd (never_zero (report_of why).number l z)
 
-    broken : {ts : List Ticket} {at : ℕ} {told : Report} (n : ℕ) (v : Verdict) → CardReads s ts at v → told ≡ done_report n v → ((done_report n v).number ≡ 0 → ⊥) → (at < length s) × ((told_of (read_of (drop at s))).report ≡ told)
-    broken n Verdict.Done reads e h = absurd (h refl)
-    broken n (Verdict.Refused why) reads e h =
+    broken : {ts : List Ticket} {at : ℕ} {told : Report} (n : ℕ) (v : Result (Unit {0}) Refusal) → CardReads s ts at v → told ≡ done_report n v → ((done_report n v).number ≡ 0 → ⊥) → (at < length s) × ((told_of (read_of (drop at s))).report ≡ told)
+    broken n (Ok tt) reads e h = absurd (h refl)
+    broken n (Err why) reads e h =
         let b = broken_card why reads refl in
         (b.0, ap (λ (x : Reading). (told_of x).report) b.1 ∙ sym e)

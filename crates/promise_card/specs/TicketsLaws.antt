@@ -1,8 +1,7 @@
 -- Demands 1 and 3 of designed tickets, from what the exports ensure: a kind at a time. Assumes nothing.
-use Rattle.std.specs.Prelude.{ℕ, ◌-◌, ◌/◌, ◌%◌, ◌≡◌, refl, Bool, true, false, cond, List, [], ◌∷◌, eqb, length}
+use Rattle.std.specs.Prelude.{ℕ, ◌-◌, ◌/◌, ◌%◌, ◌≡◌, refl, Bool, true, false, cond, List, [], ◌∷◌, eqb, length, Err, Ok, Result, Some}
 use Rattle.std.proofs.Common.{sym, ap, ◌∙◌, arith}
 use Rattle.laws.specs.Cases.{either_way}
-use Rattle.verdict.specs.Numbers.{bad_code, unknown_kind}
 use Rattle.verdict.specs.Report.{report_of}
 use Rattle.verdict.specs.Outcome.{Outcome, answered}
 use Rattle.verdict.specs.declared.Refusal.{Refusal}
@@ -13,12 +12,10 @@ use Rattle.wire.proofs.WritesLaws.{writes_same}
 use Rattle.fir_gaussian.specs.Gaussian as Gaussian
 use Rattle.fir_rrc.specs.Rrc as Rrc
 use Rattle.fir_channelizer.specs.Channelizer as Channelizer
-use Rattle.ticket_codes.specs.declared.Coded.TheVariants.{Known}
 use Rattle.ticket_kinds.specs.Kinds.{kind_of, numbers_of, formed_of, field_count, window_taken, ticket_of}
 use Rattle.ticket_kinds.specs.KindsLaws.{kind_kept, formed_back}
 use Rattle.ticket_kinds.specs.declared.Ticket.{Ticket}
 use Rattle.ticket_kinds.specs.declared.numbers.Numbers.{Numbers}
-use Rattle.ticket_kinds.specs.declared.numbers.Formed.{Formed}
 use Rattle.ticket_design.specs.Design.{float, window_for, spec_for, where_counted, ticket_outcome, ticket_bytes, own_length}
 use Rattle.ticket_card.specs.declared.Reading.{Reading}
 use Rattle.ticket_card.specs.Card.{read_of}
@@ -38,6 +35,7 @@ use Rattle.promise_totals.specs.Mirror.{WhereMade}
 use Rattle.promise_totals.proofs.MirrorLaws.{bytes_symmetric, mirrored_written, zeros_written}
 use Rattle.promise_card.specs.ReadsLaws.{read_coded}
 use Rattle.promise_card.specs.Tickets.{Divided, TicketTotals, TicketFilters, TicketMirrors, DesignsRead}
+use Rattle.verdict.specs.declared.Reason.TheVariants as Reason
 
 -- what holds of a design in bytes, and of a buffer for another number of taps, holds of a ticket that has a count
 by_count : (P : Outcome → Type 0) (count len : ℕ) (o : Outcome) → P (whole_taps len o) → ((e g : ℕ) → P (Outcome.Refused (Refusal.Length e g))) → P (whole_taps len (where_counted count (len / 8) o))
@@ -61,9 +59,9 @@ ticket_listed (Ticket.Rrc t) n = rrc_fitted_listed (Rrc.rrc_of (float t.rolloff)
 ticket_listed (Ticket.Channelizer t) n = channelizer_fitted_listed (Channelizer.channelizer_lowpass_of t.channels t.branch (float t.passband) (float t.stopband) (float t.attenuation)) n (channelizer_listed t.channels t.branch (float t.passband) (float t.stopband) (float t.attenuation))
 
 -- numbers that are no ticket are refused with 13 or 7
-FormedListed : Formed → Type 0
-FormedListed (Formed.Known t) = Unit {0}
-FormedListed (Formed.Refused why) = Listed (answered (Outcome.Refused why))
+FormedListed : Result Ticket Refusal → Type 0
+FormedListed (Ok t) = Unit {0}
+FormedListed (Err why) = Listed (answered (Outcome.Refused why))
 
 formed_listed : (n : Numbers) → FormedListed (formed_of n)
 unfolding formed_of FormedListed report_of listed
@@ -73,17 +71,17 @@ pub judged_listed : (n : Numbers) → OutcomeListed (judged_for (formed_of n))
 unfolding FormedListed
 judged_listed n = go (formed_of n) (formed_listed n)
   where
-    go : (f : Formed) → FormedListed f → OutcomeListed (judged_for f)
-    go (Formed.Known t) h = ticket_listed t (own_length t)
-    go (Formed.Refused why) h = h
+    go : (f : Result Ticket Refusal) → FormedListed f → OutcomeListed (judged_for f)
+    go (Ok t) h = ticket_listed t (own_length t)
+    go (Err why) h = h
 
 pub bytes_listed : (n : Numbers) (len : ℕ) → OutcomeListed (bytes_for (formed_of n) len)
 unfolding FormedListed
 bytes_listed n len = go (formed_of n) (formed_listed n)
   where
-    go : (f : Formed) → FormedListed f → OutcomeListed (bytes_for f len)
-    go (Formed.Known t) h = whole_listed 8 len (ticket_outcome t (len / 8)) (ticket_listed t (len / 8))
-    go (Formed.Refused why) h = h
+    go : (f : Result Ticket Refusal) → FormedListed f → OutcomeListed (bytes_for f len)
+    go (Ok t) h = whole_listed 8 len (ticket_outcome t (len / 8)) (ticket_listed t (len / 8))
+    go (Err why) h = h
 
 -- ---- demand 3: the totals of every kind but one
 refused_sound : (why : Refusal) → Listed (answered (Outcome.Refused why)) → Sound (Outcome.Refused why)
@@ -95,7 +93,7 @@ length_sound e g = refused_sound (Refusal.Length e g) tt
 
 pub ticket_sound : (t : Ticket) (len : ℕ) → Divided (kind_of t) → Sound (ticket_bytes t len)
 unfolding ticket_outcome
-ticket_sound (Ticket.Lowpass t) len d = by_count Sound t.count len _ (lowpass_bytes_sound (float t.cutoff) (float t.rate) (Known (window_for t.window)) len) length_sound
+ticket_sound (Ticket.Lowpass t) len d = by_count Sound t.count len _ (lowpass_bytes_sound (float t.cutoff) (float t.rate) (Some (window_for t.window)) len) length_sound
 ticket_sound (Ticket.Spec t) len d = spec_bytes_sound (spec_for t) (float t.rate) t.cap len
 ticket_sound (Ticket.Halfband t) len d = by_count Sound t.count len _ (halfband_bytes_sound (float t.beta) len) length_sound
 ticket_sound (Ticket.Gaussian t) len d = gaussian_bytes_sound (float t.bt) t.samples t.span len
@@ -113,15 +111,15 @@ halfband_made (Ticket.Rrc t) len e = absurd (omega (arith, e))
 halfband_made (Ticket.Channelizer t) len e = absurd (omega (arith, e))
 
 -- the ticket of numbers has their kind
-SameKind : ℕ → Formed → Type 0
-SameKind k (Formed.Known t) = kind_of t ≡ k
-SameKind k (Formed.Refused why) = Unit {0}
+SameKind : ℕ → Result Ticket Refusal → Type 0
+SameKind k (Ok t) = kind_of t ≡ k
+SameKind k (Err why) = Unit {0}
 
 same_kind : (n : Numbers) → SameKind n.kind (formed_of n)
 unfolding formed_of SameKind
 same_kind n = let xs = n.first ∷ n.second ∷ n.third ∷ n.fourth ∷ n.fifth ∷ [] in go n.kind xs (eqb (field_count n.kind) 0) refl (window_taken n.kind xs)
   where
-    go : (k : ℕ) (xs : List ℕ) (b : Bool) → eqb (field_count k) 0 ≡ b → (c : Bool) → SameKind k (cond b (Formed.Refused (Refusal.Plain unknown_kind)) (cond c (Formed.Known (ticket_of k xs)) (Formed.Refused (Refusal.Plain bad_code))))
+    go : (k : ℕ) (xs : List ℕ) (b : Bool) → eqb (field_count k) 0 ≡ b → (c : Bool) → SameKind k (cond b (Err (Refusal.Plain Reason.Kind)) (cond c (Ok (ticket_of k xs)) (Err (Refusal.Plain Reason.Code))))
     go k xs true h c = tt
     go k xs false h true = kind_kept k xs h
     go k xs false h false = tt
@@ -131,9 +129,9 @@ by_ticket : (P : Outcome → Type 0) (n : Numbers) (len : ℕ) → ((t : Ticket)
 unfolding SameKind FormedListed
 by_ticket P n len p q = go (formed_of n) (same_kind n) (formed_listed n)
   where
-    go : (f : Formed) → SameKind n.kind f → FormedListed f → P (bytes_for f len)
-    go (Formed.Known t) e l = p t e
-    go (Formed.Refused why) e l = q why l
+    go : (f : Result Ticket Refusal) → SameKind n.kind f → FormedListed f → P (bytes_for f len)
+    go (Ok t) e l = p t e
+    go (Err why) e l = q why l
 
 bytes_sound : (n : Numbers) (len : ℕ) → Divided n.kind → Sound (bytes_for (formed_of n) len)
 bytes_sound n len d = by_ticket Sound n len (λ t e. ticket_sound t len (λ k. d (sym e ∙ k))) refused_sound
@@ -161,4 +159,4 @@ module _ (n : Numbers) {before after : List ℕ} {r : Report} (w : Writes float_
 pub designs_read : (s : List ℕ) {before after : List ℕ} {r : Report} {told : TicketRead} → told ≡ told_of (read_of s) → Writes float_bytes (bytes_for (formed_of told.ticket) (length before)) before r after → DesignsRead s before r after
 designs_read s {before} {after} {r} {told} e w t k f =
     let numbers : told.ticket ≡ numbers_of t = ap (λ (x : TicketRead). x.ticket) e ∙ ap (λ (x : Reading). (told_of x).ticket) f in
-    writes_same (ap (λ (x : Formed). bytes_for x (length before)) (ap formed_of numbers ∙ formed_back t (read_coded s t k f))) w
+    writes_same (ap (λ (x : Result Ticket Refusal). bytes_for x (length before)) (ap formed_of numbers ∙ formed_back t (read_coded s t k f))) w

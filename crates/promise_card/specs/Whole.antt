@@ -1,9 +1,8 @@
 -- A card is read in one way, to its end or to the first record that is refused, and reading always ends. Assumes
 -- nothing.
-use Rattle.std.specs.Prelude.{◌≡◌, refl, List, [], ◌∷◌, ℕ, zero, suc, ◌+◌, ◌*◌, ◌<◌, ◌≤◌, length, drop}
+use Rattle.std.specs.Prelude.{◌≡◌, refl, List, [], ◌∷◌, ℕ, zero, suc, ◌+◌, ◌*◌, ◌<◌, ◌≤◌, length, drop, Err, Ok, Result}
 use Rattle.std.proofs.Common.{sym, ap, ◌∙◌, subst, arith, length-drop, drop-drop}
 use Rattle.verdict.specs.declared.Refusal.{Refusal}
-use Rattle.verdict.specs.declared.Verdict.{Verdict}
 use Rattle.ticket_kinds.specs.KindsLaws.{counts}
 use Rattle.ticket_kinds.specs.declared.Ticket.{Ticket}
 use Rattle.ticket_card.specs.declared.Reading.{Reading}
@@ -17,7 +16,7 @@ never e = let z : ◌≡◌ {A = ℕ} 0 1 = cc in omega arith
 
 -- ---- one way
 -- two readings have the same tickets, end at the same byte and end alike
-pub record Same (ts us : List Ticket) (a b : ℕ) (v w : Verdict) : Type 0 where
+pub record Same (ts us : List Ticket) (a b : ℕ) (v w : Result (Unit {0}) Refusal) : Type 0 where
   pub tickets : ts ≡ us
   pub place : a ≡ b
   pub ended : v ≡ w
@@ -25,12 +24,12 @@ pub record Same (ts us : List Ticket) (a b : ℕ) (v w : Verdict) : Type 0 where
 empty : (d : List ℕ) (t : Ticket) (k : ℕ) → length d ≡ 0 → read_of d ≡ Read t k → ⊥
 empty d t k z e = omega (arith, read_there d t k e, read_some d t k e)
 
-pub one_reading : {d : List ℕ} {ts us : List Ticket} {a b : ℕ} {v w : Verdict} → CardReads d ts a v → CardReads d us b w → Same ts us a b v w
+pub one_reading : {d : List ℕ} {ts us : List Ticket} {a b : ℕ} {v w : Result (Unit {0}) Refusal} → CardReads d ts a v → CardReads d us b w → Same ts us a b v w
 one_reading (ends z) (ends y) = record { tickets = refl; place = refl; ended = refl }
 one_reading (ends z) (breaks l e) = absurd (omega arith)
 one_reading (ends z) (next e r) = absurd (empty _ _ _ z e)
 one_reading (breaks l e) (ends z) = absurd (omega arith)
-one_reading (breaks l e) (breaks m f) = record { tickets = refl; place = refl; ended = ap Verdict.Refused (why (sym e ∙ f)) }
+one_reading (breaks l e) (breaks m f) = record { tickets = refl; place = refl; ended = ap Err (why (sym e ∙ f)) }
   where
     why : {x y : Refusal} → Refused x ≡ Refused y → x ≡ y
     why h = cc
@@ -52,16 +51,16 @@ one_reading {d} {a = a} {b = b} {v = v} {w = w} (next {t = t} {k = k} {ts = ts} 
 pub record Reads (d : List ℕ) : Type 0 where
   pub held : List Ticket
   pub place : ℕ
-  pub ended : Verdict
+  pub ended : Result (Unit {0}) Refusal
   pub reads : CardReads d held place ended
 
 within : (n : ℕ) (d : List ℕ) → length d ≤ n → Reads d
-within zero d h = record { held = []; place = 0; ended = Verdict.Done; reads = ends {d = d} (omega arith) }
+within zero d h = record { held = []; place = 0; ended = Ok tt; reads = ends {d = d} (omega arith) }
 within (suc n) d h = go (length d) refl (read_of d) refl (λ l m. within n l m)
   where
     go : (m : ℕ) → length d ≡ m → (r : Reading) → read_of d ≡ r → ((l : List ℕ) → length l ≤ n → Reads l) → Reads d
-    go zero z r e shorter = record { held = []; place = 0; ended = Verdict.Done; reads = ends {d = d} z }
-    go (suc m) z (Refused why) e shorter = record { held = []; place = 0; ended = Verdict.Refused why; reads = breaks {d = d} (omega (arith, z)) e }
+    go zero z r e shorter = record { held = []; place = 0; ended = Ok tt; reads = ends {d = d} z }
+    go (suc m) z (Refused why) e shorter = record { held = []; place = 0; ended = Err why; reads = breaks {d = d} (omega (arith, z)) e }
     go (suc m) z (Read t k) e shorter =
         let rest = shorter (drop k d) (omega (arith, length-drop k d, read_some d t k e)) in
         record { held = t ∷ rest.held; place = k + rest.place; ended = rest.ended; reads = next e rest.reads }
@@ -70,22 +69,22 @@ pub card_reads : (d : List ℕ) → Reads d
 card_reads d = within (length d) d (omega arith)
 
 -- ---- where it ends: at the end of the card, or at bytes that are refused
-pub whole_card : {d : List ℕ} {ts : List Ticket} {at : ℕ} {v : Verdict} → CardReads d ts at v → v ≡ Verdict.Done → at ≡ length d
+pub whole_card : {d : List ℕ} {ts : List Ticket} {at : ℕ} {v : Result (Unit {0}) Refusal} → CardReads d ts at v → v ≡ Ok tt → at ≡ length d
 whole_card (ends z) e = sym z
 whole_card (breaks l r) e = absurd (unlike e)
   where
-    unlike : {why : Refusal} → Verdict.Refused why ≡ Verdict.Done → ⊥
+    unlike : {why : Refusal} → Err why ≡ Ok tt → ⊥
     unlike h = let z : ◌≡◌ {A = ℕ} 0 1 = cc in omega arith
 whole_card {d} (next {t = t} {k = k} r rest) e = omega (arith, whole_card rest e, length-drop k d, read_there d t k r)
 
-pub broken_card : {d : List ℕ} {ts : List Ticket} {at : ℕ} {v : Verdict} (why : Refusal) → CardReads d ts at v → v ≡ Verdict.Refused why → (at < length d) × (read_of (drop at d) ≡ Refused why)
+pub broken_card : {d : List ℕ} {ts : List Ticket} {at : ℕ} {v : Result (Unit {0}) Refusal} (why : Refusal) → CardReads d ts at v → v ≡ Err why → (at < length d) × (read_of (drop at d) ≡ Refused why)
 broken_card why (ends z) e = absurd (unlike e)
   where
-    unlike : {why : Refusal} → Verdict.Done ≡ Verdict.Refused why → ⊥
+    unlike : {why : Refusal} → (Ok tt) ≡ Err why → ⊥
     unlike h = let z : ◌≡◌ {A = ℕ} 0 1 = cc in omega arith
 broken_card {d} why (breaks {why = x} l r) e = (l, ap read_of (drop_none d) ∙ r ∙ ap Refused (same e))
   where
-    same : {x y : Refusal} → Verdict.Refused x ≡ Verdict.Refused y → x ≡ y
+    same : {x y : Refusal} → Err x ≡ Err y → x ≡ y
     same h = cc
 
     drop_none : (d : List ℕ) → drop 0 d ≡ d
@@ -102,7 +101,7 @@ takes_some d t k e =
     let few = counts (kind_in d) b.known in
     (omega (arith, b.taken, few.0), omega (arith, b.taken, few.1))
 
-pub card_bytes : {d : List ℕ} {ts : List Ticket} {at : ℕ} {v : Verdict} → CardReads d ts at v → (22 * length ts ≤ at) × (at ≤ 46 * length ts)
+pub card_bytes : {d : List ℕ} {ts : List Ticket} {at : ℕ} {v : Result (Unit {0}) Refusal} → CardReads d ts at v → (22 * length ts ≤ at) × (at ≤ 46 * length ts)
 card_bytes (ends z) = (omega arith, omega arith)
 card_bytes (breaks l e) = (omega arith, omega arith)
 card_bytes {d} (next {t = t} {k = k} e r) =

@@ -1,9 +1,8 @@
 -- Readings of a few records, worked out: each refusal in its order, an unused beta, a NaN's payload, a card of two
 -- tickets. Assumes nothing.
-use Rattle.std.specs.Prelude.{◌≡◌, refl, List, [], ◌∷◌, ◌++◌, ℕ, length, take}
+use Rattle.std.specs.Prelude.{◌≡◌, refl, List, [], ◌∷◌, ◌++◌, ℕ, length, take, Err}
 use Rattle.std.proofs.Common.{lit<}
 use Rattle.wire.specs.Bytes.{bytes_of, number_of}
-use Rattle.verdict.specs.declared.Verdict.TheVariants.{Refused}
 use Rattle.verdict.specs.declared.Refusal.TheVariants.{Plain}
 use Rattle.ticket_kinds.specs.Kinds.{field_count, window_taken, ticket_of}
 use Rattle.ticket_kinds.specs.declared.TicketWindow.TheVariants.{Hann}
@@ -12,6 +11,7 @@ use Rattle.ticket_kinds.specs.declared.Ticket.TheVariants.{Lowpass, Halfband}
 use Rattle.ticket_card.specs.declared.Reading.TheVariants.{Read}
 use Rattle.ticket_card.specs.Card.{fields_in, following, refused, read_of}
 use Rattle.ticket_card.specs.Cards.{CardReads, breaks, next}
+use Rattle.verdict.specs.declared.Reason.TheVariants as Reason
 
 -- a record as its bytes: the length of what follows, the kind, the fields
 unfoldable field_bytes : List ℕ → List ℕ
@@ -67,6 +67,6 @@ payload_kept = refl
 abbrev card : List ℕ
 card = bytes_for 3 (9218868437227405313 ∷ 5 ∷ []) ++ (bytes_for 1 (1 ∷ 2 ∷ 0 ∷ 9 ∷ 5 ∷ []) ++ (18 ∷ 0 ∷ 0 ∷ 0 ∷ 3 ∷ []))
 
-two_tickets : CardReads card (payload ∷ hann ∷ []) 68 (Refused (Plain 12))
+two_tickets : CardReads card (payload ∷ hann ∷ []) 68 (Err (Plain Reason.CutShort))
 unfolding read_of field_count number_of bytes_of field_bytes fields_in window_taken ticket_of
 two_tickets = next {t = payload} {k = 22} refl (next {t = hann} {k = 46} refl (breaks (lit< tt) refl))

@@ -1,6 +1,6 @@
 -- A loaded Hann, Hamming or Blackman window has the built-in's value at every tap, so that the designs agree. Assumes
 -- nothing.
-use Rattle.std.specs.Prelude.{◌≡◌, Bool, List, ℕ, ◌-◌, ◌/◌, ◌%◌, ◌≤◌, ◌<◌, T, eqb, length}
+use Rattle.std.specs.Prelude.{◌≡◌, Bool, List, ℕ, ◌-◌, ◌/◌, ◌%◌, ◌≤◌, ◌<◌, T, eqb, length, Err, Ok, Result, Some}
 use Rattle.std.proofs.Math.Path.{refl, ap, subst}
 use Rattle.std.proofs.Common.{sym, ◌∙◌, eq-eqb, lit≤}
 use Rattle.std.proofs.Math.Bool.{true, false, cond}
@@ -10,12 +10,10 @@ use Rattle.std.specs.Float.Ieee.{Float, binary64, round, fits}
 use Rattle.std.specs.Float.Ieee.Scale.{finite}
 use Rattle.laws.specs.Binary64.{◌⊗◌, ◌⊘◌, whole, fraction}
 use Rattle.laws.proofs.SumsLaws.{sum_below}
-use Rattle.verdict.specs.Numbers.{bad_sum}
 use Rattle.verdict.specs.Outcome.{Outcome, Agrees}
 use Rattle.verdict.specs.Report.{accepted_of}
 use Rattle.verdict.specs.declared.Refusal.TheVariants.{Plain, Length}
 use Rattle.verdict.specs.declared.Report.{Report}
-use Rattle.verdict.specs.declared.Verdict.{Verdict}
 use Rattle.wire.specs.Bytes.{float_bytes}
 use Rattle.wire.specs.Writes.{Writes}
 use Rattle.wire.proofs.WritesLaws.{writes_agreed}
@@ -29,9 +27,7 @@ use Rattle.fir_sinc.specs.Taps.{raw_at}
 use Rattle.fir_sinc.specs.declared.window.Window.{Window}
 use Rattle.fir_lowpass.specs.Lowpass.{divisor_of, beta_taken, series_settle, usable, judgement_of, design_of, where_passed, lowpass_with, lowpass_of, tap_of, outcome_of}
 use Rattle.fir_lowpass.proofs.LowpassLaws.{passed, count_most}
-use Rattle.fir_lowpass.specs.declared.lowpass.Designed.TheVariants.{Ready, Refused}
 use Rattle.ticket_codes.specs.Codes.{window_of}
-use Rattle.ticket_codes.specs.declared.Coded.TheVariants.{Known}
 use Rattle.c_lowpass.specs.Lowpass.{lowpass_bytes}
 use Rattle.c_cosines.specs.Loads.{load_bytes, answer_of}
 use Rattle.c_cosines.specs.declared.load.Loaded.{Loaded}
@@ -39,6 +35,8 @@ use Rattle.promise_cosines.specs.Finite.{cos_finite}
 use Rattle.promise_cosines.specs.Angle.{angle_inside}
 use Rattle.promise_cosines.specs.Builtins.{two_terms, three_terms}
 use Rattle.promise_cosines.specs.Loaded.{Takes, TakesBuiltIns, WritesBuiltIns}
+use Rattle.verdict.specs.declared.Refusal.{Refusal}
+use Rattle.verdict.specs.declared.Reason.TheVariants as Reason
 
 -- ---- the three formulas, at the angle of tap i where the last tap is d
 module _ (i d : ℕ) (h : i ≤ d) (D : 0 < d) (l : d ≤ 16777216) where
@@ -107,10 +105,10 @@ module _ (v w : Window) (S : Same v w) where
   agree_designed : (fc i0 : Float) (n : ℕ) → n ≤ 16777216 → Agrees (outcome_of (design_of fc v i0 n)) (outcome_of (design_of fc w i0 n))
   unfolding design_of tap_of
   agree_designed fc i0 n l =
-      subst (λ (z : Float). Agrees (outcome_of (cond (usable z) (Ready (record { n = n; fc = fc; window = v; i0 = i0; sum = z })) (Refused (Plain bad_sum)))) (outcome_of (design_of fc w i0 n))) (sym (same_divisor fc i0 n l))
+      subst (λ (z : Float). Agrees (outcome_of (cond (usable z) (Ok (record { n = n; fc = fc; window = v; i0 = i0; sum = z })) (Err (Plain Reason.Divisor)))) (outcome_of (design_of fc w i0 n))) (sym (same_divisor fc i0 n l))
       (tested (divisor_of fc w i0 n) (usable (divisor_of fc w i0 n)))
     where
-      tested : (s : Float) (b : Bool) → Agrees (outcome_of (cond b (Ready (record { n = n; fc = fc; window = v; i0 = i0; sum = s })) (Refused (Plain bad_sum)))) (outcome_of (cond b (Ready (record { n = n; fc = fc; window = w; i0 = i0; sum = s })) (Refused (Plain bad_sum))))
+      tested : (s : Float) (b : Bool) → Agrees (outcome_of (cond b (Ok (record { n = n; fc = fc; window = v; i0 = i0; sum = s })) (Err (Plain Reason.Divisor)))) (outcome_of (cond b (Ok (record { n = n; fc = fc; window = w; i0 = i0; sum = s })) (Err (Plain Reason.Divisor))))
       tested s true = (refl, refl, λ k h. rw (same_raw fc i0 n k l h) refl)
       tested s false = refl
 
@@ -118,17 +116,17 @@ module _ (v w : Window) (S : Same v w) where
   unfolding lowpass_of lowpass_with
   agree cutoff rate n =
       subst (λ (z : Float). Agrees (outcome_of (where_passed (judgement_of cutoff rate v n) (design_of fc v z n))) (outcome_of (where_passed (judgement_of cutoff rate w n) (design_of fc w (norm_of w) n)))) (sym S.norm)
-      (subst (λ (j : Verdict). Agrees (outcome_of (where_passed j (design_of fc v (norm_of w) n))) (outcome_of (where_passed (judgement_of cutoff rate w n) (design_of fc w (norm_of w) n)))) (sym (same_judgement cutoff rate n))
+      (subst (λ (j : Result (Unit {0}) Refusal). Agrees (outcome_of (where_passed j (design_of fc v (norm_of w) n))) (outcome_of (where_passed (judgement_of cutoff rate w n) (design_of fc w (norm_of w) n)))) (sym (same_judgement cutoff rate n))
       (judged (judgement_of cutoff rate w n) refl))
     where
       fc : Float
       fc = cutoff ⊘ rate
 
-      judged : (j : Verdict) → judgement_of cutoff rate w n ≡ j → Agrees (outcome_of (where_passed j (design_of fc v (norm_of w) n))) (outcome_of (where_passed j (design_of fc w (norm_of w) n)))
-      judged Verdict.Done e = agree_designed fc (norm_of w) n (count_most n (passed cutoff rate w n e).counted)
-      judged (Verdict.Refused why) e = refl
+      judged : (j : Result (Unit {0}) Refusal) → judgement_of cutoff rate w n ≡ j → Agrees (outcome_of (where_passed j (design_of fc v (norm_of w) n))) (outcome_of (where_passed j (design_of fc w (norm_of w) n)))
+      judged (Ok tt) e = agree_designed fc (norm_of w) n (count_most n (passed cutoff rate w n e).counted)
+      judged (Err why) e = refl
 
-  pub agree_bytes : (cutoff rate : Float) (len : ℕ) → Agrees (lowpass_bytes cutoff rate (Known v) len) (lowpass_bytes cutoff rate (Known w) len)
+  pub agree_bytes : (cutoff rate : Float) (len : ℕ) → Agrees (lowpass_bytes cutoff rate (Some v) len) (lowpass_bytes cutoff rate (Some w) len)
   agree_bytes cutoff rate len = go (eqb (len % 8) 0)
     where
       go : (b : Bool) → Agrees (cond b (outcome_of (lowpass_of cutoff rate v (len / 8))) (Outcome.Refused (Length (len - len % 8) len))) (cond b (outcome_of (lowpass_of cutoff rate w (len / 8))) (Outcome.Refused (Length (len - len % 8) len)))
@@ -136,11 +134,11 @@ module _ (v w : Window) (S : Same v w) where
       go false = refl
 
 -- ---- of the exports
-module _ (cutoff rate : Float) (c : Cosines) {before after : List ℕ} {r : Report} (W : Writes float_bytes (lowpass_bytes cutoff rate (Known (Window.Cosines c)) (length before)) before r after) where
-  as_built_in : (cs : List Float) (w : Window) → Same (Window.Cosines (cosines_of cs)) w → c ≡ cosines_of cs → Writes float_bytes (lowpass_bytes cutoff rate (Known w) (length before)) before r after
+module _ (cutoff rate : Float) (c : Cosines) {before after : List ℕ} {r : Report} (W : Writes float_bytes (lowpass_bytes cutoff rate (Some (Window.Cosines c)) (length before)) before r after) where
+  as_built_in : (cs : List Float) (w : Window) → Same (Window.Cosines (cosines_of cs)) w → c ≡ cosines_of cs → Writes float_bytes (lowpass_bytes cutoff rate (Some w) (length before)) before r after
   as_built_in cs w S e =
       writes_agreed _ _ (agree_bytes (Window.Cosines (cosines_of cs)) w S cutoff rate (length before))
-      (subst (λ (z : Cosines). Writes float_bytes (lowpass_bytes cutoff rate (Known (Window.Cosines z)) (length before)) before r after) e W)
+      (subst (λ (z : Cosines). Writes float_bytes (lowpass_bytes cutoff rate (Some (Window.Cosines z)) (length before)) before r after) e W)
 
   pub writes_built_ins : WritesBuiltIns cutoff rate c before r after
   unfolding window_of

@@ -1,6 +1,6 @@
 -- A ticket with a loaded window that meets every premise of the totals, so that what they promise of such windows is not
 -- empty. One evaluation. Assumes nothing.
-use Rattle.std.specs.Prelude.{List, [], ◌∷◌, ◌≡◌, ℕ, T, length}
+use Rattle.std.specs.Prelude.{List, [], ◌∷◌, ◌≡◌, ℕ, T, length, Option, Some}
 use Rattle.std.specs.Float.Ieee.{of_bits, of_int, round, add, sub, mul, div, lt, le, ne}
 use Rattle.laws.specs.Binary64.{whole, fraction, fact, over}
 use Rattle.laws.specs.Filled.{tabulate}
@@ -18,13 +18,12 @@ use Rattle.promise_totals.proofs.WrittenLaws.{lowpass_written}
 use Rattle.fir_lowpass.specs.Lowpass as Lowpass
 use Rattle.win_cosines.specs.Load.{cosines_of}
 use Rattle.fir_sinc.specs.declared.window.Window.TheVariants.{Cosines}
-use Rattle.ticket_codes.specs.declared.Coded.{Coded}
-use Rattle.ticket_codes.specs.declared.Coded.TheVariants.{Known}
 use Rattle.promise_totals.proofs.MetTickets.{all, met, Stands, itself, stands, of_size}
+use Rattle.fir_sinc.specs.declared.window.Window.{Window}
 
 -- Blackman and Harris's window, loaded: in 40 bytes 5 taps
-abbrev pub harris_loaded : Coded
-harris_loaded = Known (Cosines (cosines_of (fraction 35875 100000 ∷ fraction 48829 100000 ∷ fraction 14128 100000 ∷ fraction 1168 100000 ∷ [])))
+abbrev pub harris_loaded : Option Window
+harris_loaded = Some (Cosines (cosines_of (fraction 35875 100000 ∷ fraction 48829 100000 ∷ fraction 14128 100000 ∷ fraction 1168 100000 ∷ [])))
 
 abbrev pub cosines_ticket : ℕ → Outcome
 cosines_ticket len = lowpass_bytes (fraction 1 4) (whole 1) harris_loaded len

@@ -1,5 +1,5 @@
 -- The scope document's worked examples that are to be proved: one list, tested by one fact.
-use Rattle.std.specs.Prelude.{ℕ, Bool, true, false, ◌&&◌, List, [], ◌∷◌, T, eqb, ℤ, pos, negsuc, Float}
+use Rattle.std.specs.Prelude.{ℕ, Bool, true, false, ◌&&◌, List, [], ◌∷◌, T, eqb, ℤ, pos, negsuc, Float, Err, Ok, Result}
 use Rattle.std.specs.Float.{nan, binary64}
 use Rattle.std.specs.Float.Ieee.{of_bits, to_bits, of_int, round, add, sub, mul, div, neg, lt, le, eq, ne, to_unsigned}
 use Rattle.laws.specs.Binary64.{b64, whole, fraction, fact, over, nested}
@@ -18,15 +18,12 @@ use Rattle.verdict.specs.declared.Refusal.TheVariants as Why
 use Rattle.fir_sinc.specs.Windows.{window_at, norm_of}
 use Rattle.fir_lowpass.specs.Lowpass.{lowpass_of, tap_of}
 use Rattle.fir_sinc.specs.declared.window.Window.TheVariants.{Hann}
-use Rattle.fir_lowpass.specs.declared.lowpass.Designed.{Designed}
 use Rattle.fir_halfband.specs.Halfband.{length_taken, halfband_of}
-use Rattle.fir_halfband.specs.declared.HalfbandDesigned.{HalfbandDesigned}
 use Rattle.fmt_q15.specs.Q15.{moved, takes, q15_of, q15_tap_of}
 use Rattle.fmt_q14.specs.Q14 as Q14
-use Rattle.fmt_q15.specs.declared.q15.Coded.{Coded}
-use Rattle.verdict.specs.declared.Length.{Length}
-use Rattle.verdict.specs.declared.Length.TheVariants as Taps
 use Rattle.fir_rrc.specs.Rrc.{sampled, spanned, rrc_len_of}
+use Rattle.fir_halfband.specs.declared.HalfbandDesign.{HalfbandDesign}
+use Rattle.fir_lowpass.specs.declared.lowpass.Lowpass.{Lowpass}
 
 -- ---- tests
 -- x has the bit pattern n
@@ -46,18 +43,18 @@ is_order n beta (Order.Taps m b) = eqb m n && is64 b beta
 is_order n beta (Order.Refused why) = false
 
 -- a design whose first tap has the bit pattern n
-unfoldable pub first_tap : ℕ → Designed → Bool
-first_tap n (Designed.Ready l) = is64 (tap_of l 0) n
-first_tap n (Designed.Refused why) = false
+unfoldable pub first_tap : ℕ → Result Lowpass Refusal → Bool
+first_tap n (Ok l) = is64 (tap_of l 0) n
+first_tap n (Err why) = false
 
-unfoldable pub refuses_lowpass : ℕ → Designed → Bool
-refuses_lowpass k (Designed.Ready l) = false
-refuses_lowpass k (Designed.Refused why) = is_plain k why
+unfoldable pub refuses_lowpass : ℕ → Result Lowpass Refusal → Bool
+refuses_lowpass k (Ok l) = false
+refuses_lowpass k (Err why) = is_plain k why
 
 -- a half-band that is refused with the number k alone
-unfoldable pub refuses_halfband : ℕ → HalfbandDesigned → Bool
-refuses_halfband k (HalfbandDesigned.Ready d) = false
-refuses_halfband k (HalfbandDesigned.Refused why) = is_plain k why
+unfoldable pub refuses_halfband : ℕ → Result HalfbandDesign Refusal → Bool
+refuses_halfband k (Ok d) = false
+refuses_halfband k (Err why) = is_plain k why
 
 -- −32768 is `negsuc 32767`
 unfoldable pub same_int : ℤ → ℤ → Bool
@@ -67,9 +64,9 @@ same_int (negsuc a) (pos b) = false
 same_int (negsuc a) (negsuc b) = eqb a b
 
 -- a value whose Q15 or Q14 number is z
-unfoldable pub is_code : ℤ → Coded → Bool
-is_code z (Coded.Number q) = same_int q z
-is_code z (Coded.Refused why) = false
+unfoldable pub is_code : ℤ → Result ℤ Refusal → Bool
+is_code z (Ok q) = same_int q z
+is_code z (Err why) = false
 
 -- a refusal with 11: the element's index, and the bit patterns of the smallest, largest and offered value
 unfoldable pub is_element : ℕ → ℕ → ℕ → ℕ → Refusal → Bool
@@ -80,21 +77,21 @@ is_element i least most offered (Why.Cap n cap) = false
 is_element i least most offered (Why.Element j lo hi got) = eqb j i && is64 lo least && is64 hi most && is64 got offered
 
 -- a value, element i and of the bit pattern n, that has no number between the patterns least and most
-unfoldable pub is_beyond : ℕ → ℕ → ℕ → ℕ → Coded → Bool
-is_beyond least most i n (Coded.Number q) = false
-is_beyond least most i n (Coded.Refused why) = is_element i least most n why
+unfoldable pub is_beyond : ℕ → ℕ → ℕ → ℕ → Result ℤ Refusal → Bool
+is_beyond least most i n (Ok q) = false
+is_beyond least most i n (Err why) = is_element i least most n why
 
 -- no Q15 number, and no Q14 number
-unfoldable pub is_outside : ℕ → ℕ → Coded → Bool
+unfoldable pub is_outside : ℕ → ℕ → Result ℤ Refusal → Bool
 is_outside i n c = is_beyond 0xBFF0_28D5_70A3_D70A 0x3FF0_28D5_70A3_D70A i n c
 
-unfoldable pub is_outside14 : ℕ → ℕ → Coded → Bool
+unfoldable pub is_outside14 : ℕ → ℕ → Result ℤ Refusal → Bool
 is_outside14 i n c = is_beyond 0xC000_0000_0000_0000 0x3FFF_FFC0_0000_0000 i n c
 
 -- a number of taps
-unfoldable pub has_taps : ℕ → Length → Bool
-has_taps n (Taps.Taps m) = eqb m n
-has_taps n (Taps.Refused why) = false
+unfoldable pub has_taps : ℕ → Result ℕ Refusal → Bool
+has_taps n (Ok m) = eqb m n
+has_taps n (Err why) = false
 
 -- none, because a value with the bit pattern n isn't between least and most: number k
 unfoldable pub is_range : ℕ → ℕ → ℕ → ℕ → Refusal → Bool
@@ -104,9 +101,9 @@ is_range k least most offered (Why.Length expected given) = false
 is_range k least most offered (Why.Cap n cap) = false
 is_range k least most offered (Why.Element i lo hi got) = false
 
-unfoldable pub refuses_length : ℕ → ℕ → ℕ → ℕ → Length → Bool
-refuses_length k least most offered (Taps.Taps m) = false
-refuses_length k least most offered (Taps.Refused why) = is_range k least most offered why
+unfoldable pub refuses_length : ℕ → ℕ → ℕ → ℕ → Result ℕ Refusal → Bool
+refuses_length k least most offered (Ok m) = false
+refuses_length k least most offered (Err why) = is_range k least most offered why
 
 -- ---- the list
 unfoldable pub examples : List Bool

@@ -1,5 +1,5 @@
 -- Demand 1 from what an export ensures: of a design that writes its elements, and of a conversion. Assumes nothing.
-use Rattle.std.specs.Prelude.{ℕ, suc, ◌*◌, ◌/◌, ◌%◌, ◌<◌, ◌≤◌, ◌≡◌, Bool, List, [], ◌∷◌, ◌⊎◌, T, length, take, drop, get_or, Float}
+use Rattle.std.specs.Prelude.{ℕ, suc, ◌*◌, ◌/◌, ◌%◌, ◌<◌, ◌≤◌, ◌≡◌, Bool, List, [], ◌∷◌, ◌⊎◌, T, length, take, drop, get_or, Float, Err, Ok, Result}
 use Rattle.std.proofs.Math.Path.{refl, ap}
 use Rattle.std.proofs.Common.{sym, ◌∙◌, subst, le_of_eq, arith, take_at, drop_at}
 use Rattle.std.proofs.Math.Bool.{true, false, cond}
@@ -18,13 +18,10 @@ use Rattle.verdict.specs.Reports.{outcome_report, done_report}
 use Rattle.verdict.specs.Outcome.{Outcome, answered}
 use Rattle.verdict.specs.Converts.{taken_of, groups_of, then_of, left_of}
 use Rattle.verdict.specs.declared.Report.{Report}
-use Rattle.verdict.specs.declared.Verdict.{Verdict}
-use Rattle.verdict.specs.declared.Verdict.TheVariants.{Done, Refused}
 use Rattle.wire.specs.Bytes.{float_at}
 use Rattle.wire.specs.Laws.{length_bytes}
 use Rattle.wire.specs.Writes.{written, Writes}
 use Rattle.win_cosines.specs.Load.{cosines_of}
-use Rattle.win_cosines.specs.declared.Loading.{Loading}
 use Rattle.c_cosines.specs.Loads.{numbers_in, load_bytes, zeros, answer_of}
 use Rattle.c_cosines.specs.LoadsLaws.{bytes_these}
 use Rattle.c_cosines.specs.declared.load.Loaded.{Loaded}
@@ -38,6 +35,8 @@ use Rattle.promise_refusals.specs.Listed.{Listed}
 use Rattle.promise_refusals.proofs.ListedLaws.{never_zero, numbered, outcome_heard, done_heard, loading_heard}
 use Rattle.promise_refusals.specs.Exports.{load_bytes_lem}
 use Rattle.promise_refusals.specs.Judgements.{lengths_listed, taken_listed, then_listed}
+use Rattle.verdict.specs.declared.Refusal.{Refusal}
+use Rattle.win_shapes.specs.declared.cosines.Cosines.{Cosines}
 
 -- ---- a design
 module _ (bytes : Float → List ℕ) (before : List ℕ) where
@@ -69,13 +68,13 @@ loaded_or_none s {r} e = subst (LoadedOrNone s) (sym e) (record {
   none = zeroed (load_bytes s) (load_bytes_lem s);
 })
   where
-    these : (l : Loading) → load_bytes s ≡ l → (answer_of (length s / 8) l).report.number ≡ 0 → (answer_of (length s / 8) l).window ≡ cosines_of (numbers_in s)
-    these (Loading.Loaded c) g z = bytes_these s c g
-    these (Loading.Refused why) g z = absurd (never_zero (report_of why).number (subst (λ (l : Loading). Listed (of_loading l)) g (load_bytes_lem s)) z)
+    these : (l : Result Cosines Refusal) → load_bytes s ≡ l → (answer_of (length s / 8) l).report.number ≡ 0 → (answer_of (length s / 8) l).window ≡ cosines_of (numbers_in s)
+    these (Ok c) g z = bytes_these s c g
+    these (Err why) g z = absurd (never_zero (report_of why).number (subst (λ (l : Result Cosines Refusal). Listed (of_loading l)) g (load_bytes_lem s)) z)
 
-    zeroed : (l : Loading) → Listed (of_loading l) → ((answer_of (length s / 8) l).report.number ≡ 0 → ⊥) → (answer_of (length s / 8) l).window ≡ zeros
-    zeroed (Loading.Loaded c) x h = absurd (h refl)
-    zeroed (Loading.Refused why) x h = refl
+    zeroed : (l : Result Cosines Refusal) → Listed (of_loading l) → ((answer_of (length s / 8) l).report.number ≡ 0 → ⊥) → (answer_of (length s / 8) l).window ≡ zeros
+    zeroed (Ok c) x h = absurd (h refl)
+    zeroed (Err why) x h = refl
 
 -- ---- a conversion: it ends in one of three ways
 -- what an accepted one tells: each f64 of its source is taken, and its bytes are those of every element, the first one
@@ -95,9 +94,9 @@ all_taken p (x ∷ l) e = go (p x) refl e (all_taken p l)
     go false h e rest = absurd (omega (arith, e))
 
 -- a refusal of its lengths has their number
-abbrev ByLength : Verdict → Type 0
-ByLength Done = Unit {0}
-ByLength (Refused why) = (report_of why).number ≡ bad_length
+abbrev ByLength : Result (Unit {0}) Refusal → Type 0
+ByLength (Ok tt) = Unit {0}
+ByLength (Err why) = (report_of why).number ≡ bad_length
 
 lengths_by_length : (w g m len : ℕ) → ByLength (lengths_of w g m len)
 unfolding lengths_of groups_of report_of
@@ -113,10 +112,10 @@ outside_number Format.Q14 i x = (refl, refl)
 outside_number Format.Single i x = (refl, refl)
 
 module _ {f : Format} {g : ℕ} {s before : List ℕ} {r : Report} {after : List ℕ} (c : ConvertsBytes f g s before r after) where
-  abbrev lengths : Verdict
+  abbrev lengths : Result (Unit {0}) Refusal
   lengths = lengths_of (width_of f) g (length s) (length before)
 
-  abbrev elements : Verdict
+  abbrev elements : Result (Unit {0}) Refusal
   elements = taken_of (takes_of f) (outside_of f) (floats s)
 
   abbrev bad : ℕ
@@ -128,34 +127,34 @@ module _ {f : Format} {g : ℕ} {s before : List ℕ} {r : Report} {after : List
 
   record Whole : Type 0 where
     number : r.number ≡ 0
-    fit : lengths ≡ Done
+    fit : lengths ≡ Ok tt
     all : bad ≡ length s / 8
 
   record Part : Type 0 where
     number : r.number ≡ bad_element
     index : r.index ≡ bad
-    fit : lengths ≡ Done
+    fit : lengths ≡ Ok tt
     some : bad < length s / 8
 
-  abbrev told : Verdict → Report
+  abbrev told : Result (Unit {0}) Refusal → Report
   told v = done_report (length s / 8) v
 
   -- the report, by what the lengths and the elements came to
-  answer_is : (v w : Verdict) → lengths ≡ v → elements ≡ w → r ≡ told (then_of v w)
-  answer_is v w e d = c.answer ∙ ap (λ (z : Verdict). told (then_of z elements)) e ∙ ap (λ (z : Verdict). told (then_of v z)) d
+  answer_is : (v w : Result (Unit {0}) Refusal) → lengths ≡ v → elements ≡ w → r ≡ told (then_of v w)
+  answer_is v w e d = c.answer ∙ ap (λ (z : Result (Unit {0}) Refusal). told (then_of z elements)) e ∙ ap (λ (z : Result (Unit {0}) Refusal). told (then_of v z)) d
 
   ends : Unfit ⊎ (Whole ⊎ Part)
   unfolding taken_of accepted_of
   ends = by_lengths lengths refl (lengths_by_length (width_of f) g (length s) (length before))
     where
-      by_elements : (b : Bool) → eqb bad (length (floats s)) ≡ b → lengths ≡ Done → Whole ⊎ Part
+      by_elements : (b : Bool) → eqb bad (length (floats s)) ≡ b → lengths ≡ Ok tt → Whole ⊎ Part
       by_elements true e fit =
-          let done : elements ≡ Done = ap (λ (b : Bool). cond b Done (Refused (outside_of f bad (get_or (floats s) bad nan)))) e in
-          inl (record { number = ap (λ (z : Report). z.number) (answer_is Done Done fit done); fit = fit; all = eqb-true bad (length (floats s)) e ∙ count s })
+          let done : elements ≡ (Ok tt) = ap (λ (b : Bool). cond b (Ok tt) (Err (outside_of f bad (get_or (floats s) bad nan)))) e in
+          inl (record { number = ap (λ (z : Report). z.number) (answer_is (Ok tt) (Ok tt) fit done); fit = fit; all = eqb-true bad (length (floats s)) e ∙ count s })
       by_elements false e fit =
           let why = outside_of f bad (get_or (floats s) bad nan) in
-          let refused : elements ≡ Refused why = ap (λ (b : Bool). cond b Done (Refused why)) e in
-          let told = answer_is Done (Refused why) fit refused in
+          let refused : elements ≡ Err why = ap (λ (b : Bool). cond b (Ok tt) (Err why)) e in
+          let told = answer_is (Ok tt) (Err why) fit refused in
           let n = outside_number f bad (get_or (floats s) bad nan) in
           inr (record {
             number = ap (λ (z : Report). z.number) told ∙ n.0;
@@ -164,9 +163,9 @@ module _ {f : Format} {g : ℕ} {s before : List ℕ} {r : Report} {after : List
             some = omega (arith, bad_le (takes_of f) (floats s), count s, eqb-false bad (length (floats s)) e);
           })
 
-      by_lengths : (v : Verdict) → lengths ≡ v → ByLength v → Unfit ⊎ (Whole ⊎ Part)
-      by_lengths Done e n = inr (by_elements (eqb bad (length (floats s))) refl e)
-      by_lengths (Refused why) e n = inl (record { number = ap (λ (z : Report). z.number) (answer_is (Refused why) elements e refl) ∙ n; left = c.buffer ∙ ap (λ (v : Verdict). left_of v (stored_of f (floats s) before) before) e })
+      by_lengths : (v : Result (Unit {0}) Refusal) → lengths ≡ v → ByLength v → Unfit ⊎ (Whole ⊎ Part)
+      by_lengths (Ok tt) e n = inr (by_elements (eqb bad (length (floats s))) refl e)
+      by_lengths (Err why) e n = inl (record { number = ap (λ (z : Report). z.number) (answer_is (Err why) elements e refl) ∙ n; left = c.buffer ∙ ap (λ (v : Result (Unit {0}) Refusal). left_of v (stored_of f (floats s) before) before) e })
 
   -- ---- what is left where the lengths fit
   abbrev chunk : ℕ → List ℕ
@@ -175,9 +174,9 @@ module _ {f : Format} {g : ℕ} {s before : List ℕ} {r : Report} {after : List
   width : (i : ℕ) → length (chunk i) ≡ width_of f
   width i = length_bytes (width_of f) (pattern_of f (get_or (floats s) i nan))
 
-  front_is : lengths ≡ Done → after ≡ chunked (width_of f) bad chunk before
+  front_is : lengths ≡ Ok tt → after ≡ chunked (width_of f) bad chunk before
   unfolding stored_of
-  front_is fit = c.buffer ∙ ap (λ (v : Verdict). left_of v (stored_of f (floats s) before) before) fit
+  front_is fit = c.buffer ∙ ap (λ (v : Result (Unit {0}) Refusal). left_of v (stored_of f (floats s) before) before) fit
 
   element_is : (i : ℕ) → i < length s / 8 → get_or (floats s) i nan ≡ element_at s i
   element_is i h = get_d_tabulate (length s / 8) (λ k. float_at s (8 * k)) i nan h

@@ -1,21 +1,15 @@
 -- What the numbers of refusals are: each one is listed, and what an export tells is one of them.
-use Rattle.std.specs.Prelude.{ℕ, ◌-◌, ◌%◌, ◌≤◌, ◌≡◌, refl, Bool, true, false, cond, ◌&&◌, ◌||◌, List, [], ◌∷◌, ◌⊎◌, T, eqb, leb, length}
+use Rattle.std.specs.Prelude.{ℕ, ◌-◌, ◌%◌, ◌≤◌, ◌≡◌, refl, Bool, true, false, cond, ◌&&◌, ◌||◌, List, [], ◌∷◌, ◌⊎◌, T, eqb, leb, length, Err, Ok, Result, ℤ}
 use Rattle.std.proofs.Common.{sym, ◌∙◌, subst, inl, inr, arith, eqb-true, leb-true}
 use Rattle.std.specs.Float.Ieee.Bits.{is_true}
 use Rattle.std.specs.Float.Ieee.Fits.{and_l, and_r}
 use Rattle.laws.specs.Cases.{either}
-use Rattle.verdict.specs.Numbers.{refusals, bad_length, not_settled}
+use Rattle.verdict.specs.Numbers.{refusals, bad_length}
 use Rattle.verdict.specs.Report.{report_of, accepted_of}
 use Rattle.verdict.specs.Reports.{length_report, outcome_report, done_report}
 use Rattle.verdict.specs.Outcome.{Outcome, answered}
 use Rattle.verdict.specs.declared.Refusal.{Refusal}
-use Rattle.verdict.specs.declared.Verdict.{Verdict}
-use Rattle.verdict.specs.declared.Verdict.TheVariants.{Done, Refused}
-use Rattle.verdict.specs.declared.Length.{Length}
 use Rattle.fir_length.specs.declared.order.Order.{Order}
-use Rattle.fir_delay.specs.declared.Delayed.{Delayed}
-use Rattle.fmt_q15.specs.declared.q15.Coded.{Coded}
-use Rattle.win_cosines.specs.declared.Loading.{Loading}
 use Rattle.math_bessel.specs.declared.Series.{Series}
 use Rattle.c_math.specs.Reports.{order_report, delay_report, coded_report, unsettled_of, series_report}
 use Rattle.c_cosines.specs.Loads.{answer_of}
@@ -24,6 +18,8 @@ use Rattle.c_gain.specs.declared.level.GainReport.{GainReport}
 use Rattle.promise_refusals.specs.Demand.{listed, IsRefusal, Numbered}
 use Rattle.promise_refusals.specs.Verdicts.{of_length, of_order, of_delay, of_coded, of_loading, of_series, of_samples}
 use Rattle.promise_refusals.specs.Listed.{Listed, every, heard, is_known}
+use Rattle.win_shapes.specs.declared.cosines.Cosines.{Cosines}
+use Rattle.verdict.specs.declared.Reason.TheVariants as Reason
 
 -- what every number of a list passes, one of them does
 one_of : (p : ℕ → Bool) (k : ℕ) (ns : List ℕ) → T (every p ns) → T (listed k ns) → T (p k)
@@ -54,19 +50,19 @@ between k l = go (leb 1 k && leb k 14) (within 1 14 k) (one_of is_known k refusa
 pub never_zero : (k : ℕ) → IsRefusal k → k ≡ 0 → ⊥
 never_zero k l e = either (between k l) (λ r. omega (arith, r.0, e)) (λ r. omega (arith, r.0, e))
 
-never_refused : (why : Refusal) → Refused why ≡ Done → ⊥
+never_refused : (why : Refusal) → Err why ≡ Ok tt → ⊥
 never_refused why e = let z : ◌≡◌ {A = ℕ} 0 1 = cc in omega arith
 
-pub numbered : (v : Verdict) {k : ℕ} → k ≡ heard v → Listed v → Numbered v k
-numbered Done {k} e l = record { number = inl e; accepted = λ d. e; only = λ z. refl }
-numbered (Refused why) {k} e l = record {
+pub numbered : (v : Result (Unit {0}) Refusal) {k : ℕ} → k ≡ heard v → Listed v → Numbered v k
+numbered (Ok tt) {k} e l = record { number = inl e; accepted = λ d. e; only = λ z. refl }
+numbered (Err why) {k} e l = record {
   number = inr (subst IsRefusal (sym e) l);
   accepted = λ d. absurd (never_refused why d);
   only = λ z. absurd (never_zero (report_of why).number l (sym e ∙ z));
 }
 
 -- "the number is 0 or one of" the refusals': 1 to 14 or 16 to 19
-pub zero_or_between : {v : Verdict} {k : ℕ} → Numbered v k → (k ≡ 0) ⊎ (((1 ≤ k) × (k ≤ 14)) ⊎ ((16 ≤ k) × (k ≤ 19)))
+pub zero_or_between : {v : Result (Unit {0}) Refusal} {k : ℕ} → Numbered v k → (k ≡ 0) ⊎ (((1 ≤ k) × (k ≤ 14)) ⊎ ((16 ≤ k) × (k ≤ 19)))
 zero_or_between {v} {k} n = either n.number (λ e. inl e) (λ l. inr (between k l))
 
 -- ---- what is told of each kind of answer
@@ -75,41 +71,41 @@ unfolding accepted_of
 outcome_heard (Outcome.Designed n divisor tap) = refl
 outcome_heard (Outcome.Refused why) = refl
 
-pub done_heard : (n : ℕ) (v : Verdict) → (done_report n v).number ≡ heard v
+pub done_heard : (n : ℕ) (v : Result (Unit {0}) Refusal) → (done_report n v).number ≡ heard v
 unfolding accepted_of
-done_heard n Done = refl
-done_heard n (Refused why) = refl
+done_heard n (Ok tt) = refl
+done_heard n (Err why) = refl
 
-pub length_heard : (l : Length) → (length_report l).number ≡ heard (of_length l)
+pub length_heard : (l : Result ℕ Refusal) → (length_report l).number ≡ heard (of_length l)
 unfolding accepted_of
-length_heard (Length.Taps n) = refl
-length_heard (Length.Refused why) = refl
+length_heard (Ok n) = refl
+length_heard (Err why) = refl
 
 pub order_heard : (o : Order) → (order_report o).number ≡ heard (of_order o)
 unfolding accepted_of
 order_heard (Order.Taps n beta) = refl
 order_heard (Order.Refused why) = refl
 
-pub delay_heard : (d : Delayed) → (delay_report d).number ≡ heard (of_delay d)
+pub delay_heard : (d : Result ℕ Refusal) → (delay_report d).number ≡ heard (of_delay d)
 unfolding accepted_of
-delay_heard (Delayed.HalfSamples n) = refl
-delay_heard (Delayed.Refused why) = refl
+delay_heard (Ok n) = refl
+delay_heard (Err why) = refl
 
-pub coded_heard : (c : Coded) → (coded_report c).number ≡ heard (of_coded c)
+pub coded_heard : (c : Result ℤ Refusal) → (coded_report c).number ≡ heard (of_coded c)
 unfolding accepted_of
-coded_heard (Coded.Number q) = refl
-coded_heard (Coded.Refused why) = refl
+coded_heard (Ok q) = refl
+coded_heard (Err why) = refl
 
-pub loading_heard : (n : ℕ) (l : Loading) → (answer_of n l).report.number ≡ heard (of_loading l)
+pub loading_heard : (n : ℕ) (l : Result Cosines Refusal) → (answer_of n l).report.number ≡ heard (of_loading l)
 unfolding accepted_of
-loading_heard n (Loading.Loaded c) = refl
-loading_heard n (Loading.Refused why) = refl
+loading_heard n (Ok c) = refl
+loading_heard n (Err why) = refl
 
 pub series_heard : (s : Series) → (series_report s).number ≡ heard (of_series s)
 unfolding accepted_of report_of
 series_heard s = go s.settled
   where
-    go : (b : Bool) → (cond b (accepted_of s.terms s.sum) (unsettled_of s.terms s.sum)).number ≡ heard (cond b Done (Refused (Refusal.Plain not_settled)))
+    go : (b : Bool) → (cond b (accepted_of s.terms s.sum) (unsettled_of s.terms s.sum)).number ≡ heard (cond b (Ok tt) (Err (Refusal.Plain Reason.Unsettled)))
     go true = refl
     go false = refl
 
@@ -117,6 +113,6 @@ pub gain_heard : (s : List ℕ) → (gain_report s).number ≡ heard (of_samples
 unfolding gain_report report_of
 gain_heard s = go (eqb (length s % 4) 0) _ _ refl refl
   where
-    go : (b : Bool) (x y : GainReport) → x.number ≡ 0 → y.number ≡ bad_length → (cond b x y).number ≡ heard (cond b Done (Refused (Refusal.Length (length s - length s % 4) (length s))))
+    go : (b : Bool) (x y : GainReport) → x.number ≡ 0 → y.number ≡ bad_length → (cond b x y).number ≡ heard (cond b (Ok tt) (Err (Refusal.Length (length s - length s % 4) (length s))))
     go true x y e f = e
     go false x y e f = f

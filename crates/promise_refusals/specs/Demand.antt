@@ -2,14 +2,12 @@
 -- afterwards. Definitions only.
 --   "A ticket is filled completely or refused by number with its buffer as it came. A conversion that meets an element
 --   it can't take names its index, keeps those before it, leaves the rest."
-use Rattle.std.specs.Prelude.{ℕ, ◌*◌, ◌/◌, ◌<◌, ◌≡◌, Bool, true, false, ◌||◌, List, [], ◌∷◌, ◌⊎◌, T, eqb, length, take, drop, Float}
+use Rattle.std.specs.Prelude.{ℕ, ◌*◌, ◌/◌, ◌<◌, ◌≡◌, Bool, true, false, ◌||◌, List, [], ◌∷◌, ◌⊎◌, T, eqb, length, take, drop, Float, Ok, Result}
 use Rattle.laws.specs.Chunks.{chunks}
 use Rattle.verdict.specs.Numbers.{refusals, bad_element}
 use Rattle.verdict.specs.Outcome.{Outcome, answered}
 use Rattle.verdict.specs.Converts.{taken_of, then_of}
 use Rattle.verdict.specs.declared.Report.{Report}
-use Rattle.verdict.specs.declared.Verdict.{Verdict}
-use Rattle.verdict.specs.declared.Verdict.TheVariants.{Done}
 use Rattle.wire.specs.Bytes.{float_at}
 use Rattle.win_cosines.specs.Load.{cosines_of}
 use Rattle.c_cosines.specs.Loads.{numbers_in, load_bytes, zeros}
@@ -18,6 +16,7 @@ use Rattle.c_formats.specs.declared.element.Format.{Format}
 use Rattle.c_formats.specs.Formats.{width_of, takes_of, outside_of, bytes_in}
 use Rattle.c_formats.specs.Conversions.{floats, lengths_of}
 use Rattle.promise_refusals.specs.Verdicts.{of_loading}
+use Rattle.verdict.specs.declared.Refusal.{Refusal}
 
 -- ---- the number
 -- one of a list
@@ -30,10 +29,10 @@ IsRefusal k = T (listed k refusals)
 
 -- the number k of a ticket of which the definition says v: "0 or one of the refusals", and 0 exactly where the
 -- definition designs
-pub record Numbered (v : Verdict) (k : ℕ) : Type 0 where
+pub record Numbered (v : Result (Unit {0}) Refusal) (k : ℕ) : Type 0 where
   pub number : (k ≡ 0) ⊎ IsRefusal k
-  pub accepted : v ≡ Done → k ≡ 0
-  pub only : k ≡ 0 → v ≡ Done
+  pub accepted : v ≡ Ok tt → k ≡ 0
+  pub only : k ≡ 0 → v ≡ Ok tt
 
 -- ---- a buffer of elements, `bytes` being those of one
 -- "filled completely": the elements of the design, one after the other, and nothing else

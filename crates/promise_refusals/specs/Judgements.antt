@@ -1,6 +1,6 @@
 -- Every refusal that a ticket can come to has one of the refusals' numbers: of each judgement, whatever its numbers are.
 -- Assumes nothing.
-use Rattle.std.specs.Prelude.{ℕ, zero, suc, ◌-◌, ◌*◌, ◌/◌, ◌%◌, ◌&&◌, List, [], ◌∷◌, eqb, ltb, leb, length, get_or, Float}
+use Rattle.std.specs.Prelude.{ℕ, zero, suc, ◌-◌, ◌*◌, ◌/◌, ◌%◌, ◌&&◌, List, [], ◌∷◌, eqb, ltb, leb, length, get_or, Float, Err, Ok, Result, ℤ}
 use Rattle.std.specs.Float.{nan}
 use Rattle.std.specs.Float.Ieee.{lt}
 use Rattle.std.specs.Float.Ieee.Scale.{finite}
@@ -14,13 +14,9 @@ use Rattle.verdict.specs.Report.{report_of}
 use Rattle.verdict.specs.Outcome.{Outcome, answered, where_passed}
 use Rattle.verdict.specs.Converts.{taken_of, groups_of, then_of}
 use Rattle.verdict.specs.declared.Refusal.{Refusal}
-use Rattle.verdict.specs.declared.Verdict.{Verdict}
-use Rattle.verdict.specs.declared.Verdict.TheVariants.{Done, Refused}
-use Rattle.verdict.specs.declared.Length.{Length}
 use Rattle.wire.specs.Writes.{whole_elements}
 use Rattle.fmt_q15.specs.Q15 as Q15
 use Rattle.fmt_q14.specs.Q14 as Q14
-use Rattle.fmt_q15.specs.declared.q15.Coded.{Coded}
 use Rattle.math_bessel.specs.declared.Series.{Series}
 use Rattle.win_sampled.specs.Shapes.{shape_taken, divisor_of, series_settle, judgement_of}
 use Rattle.win_sampled.specs.declared.shape.Shape.{Shape}
@@ -32,15 +28,11 @@ use Rattle.fir_sinc.specs.Windows.{norm_of}
 use Rattle.fir_sinc.specs.declared.window.Window.{Window}
 use Rattle.fir_sinc.specs.declared.window.Window.TheVariants.{Kaiser}
 use Rattle.fir_lowpass.specs.Lowpass as Lowpass
-use Rattle.fir_lowpass.specs.declared.lowpass.Designed.{Designed}
 use Rattle.fir_spec.specs.Spec as Spec
 use Rattle.fir_spec.specs.declared.DesignSpec.{DesignSpec}
 use Rattle.fir_halfband.specs.Halfband as Halfband
-use Rattle.fir_halfband.specs.declared.HalfbandDesigned.{HalfbandDesigned}
 use Rattle.fir_gaussian.specs.Gaussian as Gaussian
-use Rattle.fir_gaussian.specs.declared.gaussian_design.GaussianDesigned.{GaussianDesigned}
 use Rattle.fir_rrc.specs.Rrc as Rrc
-use Rattle.fir_rrc.specs.declared.design.RrcDesigned.{RrcDesigned}
 use Rattle.fir_channelizer.specs.Channelizer as Channelizer
 use Rattle.iir_biquad.specs.Biquad.{centre_taken, quality_taken, biquad_of}
 use Rattle.iir_biquad.specs.Preemphasis.{constant_taken, rate_taken, preemphasis_of}
@@ -50,13 +42,17 @@ use Rattle.iir_biquad.specs.declared.preemphasis.Preemphasis.{Preemphasis}
 use Rattle.iir_butterworth.specs.Butterworth.{response_taken, order_taken, sections_of, butterworth_of}
 use Rattle.win_cosines.specs.Load.{numbers_taken, load_of}
 use Rattle.win_cosines.specs.Load as Load
-use Rattle.win_cosines.specs.declared.Loading.{Loading}
 use Rattle.c_formats.specs.declared.element.Format.{Format}
 use Rattle.c_formats.specs.Formats.{takes_of, outside_of}
 use Rattle.c_formats.specs.Conversions.{lengths_of}
 use Rattle.promise_refusals.specs.Demand.{listed}
 use Rattle.promise_refusals.specs.Verdicts.{of_length, of_order, of_delay, of_coded, of_loading, of_series, of_samples}
 use Rattle.promise_refusals.specs.Listed.{Listed}
+use Rattle.fir_gaussian.specs.declared.gaussian_design.Gaussian.{Gaussian}
+use Rattle.fir_rrc.specs.declared.design.Rrc.{Rrc}
+use Rattle.fir_halfband.specs.declared.HalfbandDesign.{HalfbandDesign}
+use Rattle.fir_lowpass.specs.declared.lowpass.Lowpass.{Lowpass}
+use Rattle.win_shapes.specs.declared.cosines.Cosines.{Cosines}
 
 -- ---- a length of elements of w bytes
 pub whole_listed : (w len : ℕ) (o : Outcome) → Listed (answered o) → Listed (answered (whole_elements w len o))
@@ -64,12 +60,12 @@ unfolding report_of listed
 whole_listed w len o l = either_way (λ (p : Outcome). Listed (answered p)) (eqb (len % w) 0) o (Outcome.Refused (Refusal.Length (len - len % w) len)) l tt
 
 -- ---- the low-pass
-abbrev LowpassListed : Designed → Type 0
+abbrev LowpassListed : Result Lowpass Refusal → Type 0
 LowpassListed d = Listed (answered (Lowpass.outcome_of d))
 
-passed_listed : (v : Verdict) (d : Designed) → Listed v → LowpassListed d → LowpassListed (Lowpass.where_passed v d)
-passed_listed Done d l x = x
-passed_listed (Refused why) d l x = l
+passed_listed : (v : Result (Unit {0}) Refusal) (d : Result Lowpass Refusal) → Listed v → LowpassListed d → LowpassListed (Lowpass.where_passed v d)
+passed_listed (Ok tt) d l x = x
+passed_listed (Err why) d l x = l
 
 module _ (cutoff rate : Float) (w : Window) (n : ℕ) where
   judgement_listed : Listed (Lowpass.judgement_of cutoff rate w n)
@@ -127,7 +123,7 @@ module _ (spec : DesignSpec) (rate : Float) where
 
   in_buffer : (len : ℕ) (o : Order) → Listed (of_order o) → LowpassListed (Spec.design_in spec rate len o)
   unfolding report_of listed
-  in_buffer len (Order.Taps n beta) l = either_way LowpassListed (eqb n len) (Lowpass.lowpass_of spec.cutoff rate (Kaiser beta) n) (Designed.Refused (Refusal.Length n len)) (lowpass_listed spec.cutoff rate (Kaiser beta) n) tt
+  in_buffer len (Order.Taps n beta) l = either_way LowpassListed (eqb n len) (Lowpass.lowpass_of spec.cutoff rate (Kaiser beta) n) (Err (Refusal.Length n len)) (lowpass_listed spec.cutoff rate (Kaiser beta) n) tt
   in_buffer len (Order.Refused why) l = l
 
   module _ (cap : ℕ) where
@@ -157,20 +153,20 @@ module _ (spec : DesignSpec) (rate : Float) where
 
 -- ---- the half-band
 module _ (beta : Float) (n : ℕ) where
-  abbrev HalfbandListed : HalfbandDesigned → Type 0
+  abbrev HalfbandListed : Result HalfbandDesign Refusal → Type 0
   HalfbandListed d = Listed (answered (Halfband.outcome_of d))
 
-  of_quarter : (q : Designed) → LowpassListed q → HalfbandListed (Halfband.halfband_in n q)
+  of_quarter : (q : Result Lowpass Refusal) → LowpassListed q → HalfbandListed (Halfband.halfband_in n q)
   unfolding report_of listed
-  of_quarter (Designed.Ready l) x = either_way HalfbandListed (Lowpass.usable (Halfband.divisor_of l n)) _ _ tt tt
-  of_quarter (Designed.Refused why) x = x
+  of_quarter (Ok l) x = either_way HalfbandListed (Lowpass.usable (Halfband.divisor_of l n)) _ _ tt tt
+  of_quarter (Err why) x = x
 
   pub halfband_listed : HalfbandListed (Halfband.halfband_of beta n)
   unfolding Halfband.halfband_of report_of listed
   halfband_listed = either_way HalfbandListed (Halfband.length_taken n) _ _ (of_quarter (Halfband.quarter_of beta n) (lowpass_listed (fraction 1 4) (whole 1) (Kaiser beta) n)) tt
 
 -- ---- the Gaussian
-abbrev GaussianListed : GaussianDesigned → Type 0
+abbrev GaussianListed : Result Gaussian Refusal → Type 0
 GaussianListed d = Listed (answered (Gaussian.outcome_of d))
 
 pub gaussian_listed : (bt : Float) (sps span : ℕ) → GaussianListed (Gaussian.gaussian_of bt sps span)
@@ -179,33 +175,33 @@ gaussian_listed bt sps span =
     let way = either_way GaussianListed in
     way (Gaussian.bt_taken bt) _ _ (way (Gaussian.span_taken span) _ _ (way (Gaussian.samples_taken sps (16777215 / span)) _ _ tt tt) tt) tt
 
-pub gaussian_fitted_listed : (d : GaussianDesigned) (len : ℕ) → GaussianListed d → GaussianListed (Gaussian.fitted_of d len)
+pub gaussian_fitted_listed : (d : Result Gaussian Refusal) (len : ℕ) → GaussianListed d → GaussianListed (Gaussian.fitted_of d len)
 unfolding report_of listed
-gaussian_fitted_listed (GaussianDesigned.Ready g) len l = either_way GaussianListed (eqb g.n len) _ _ tt tt
-gaussian_fitted_listed (GaussianDesigned.Refused why) len l = l
+gaussian_fitted_listed (Ok g) len l = either_way GaussianListed (eqb g.n len) _ _ tt tt
+gaussian_fitted_listed (Err why) len l = l
 
 -- ---- the root-raised cosine
 pub rrc_len_listed : (sps span : ℕ) → Listed (of_length (Rrc.rrc_len_of sps span))
 unfolding Rrc.rrc_len_of report_of listed
 rrc_len_listed sps span =
-    let way = either_way (λ (l : Length). Listed (of_length l)) in
+    let way = either_way (λ (l : Result ℕ Refusal). Listed (of_length l)) in
     way (Rrc.sampled sps) _ _ (way (Rrc.spanned span) _ _ tt tt) tt
 
-abbrev RrcListed : RrcDesigned → Type 0
+abbrev RrcListed : Result Rrc Refusal → Type 0
 RrcListed d = Listed (answered (Rrc.outcome_of d))
 
-rrc_in_lem : (rolloff : Float) (sps : ℕ) (l : Length) → Listed (of_length l) → RrcListed (Rrc.rrc_in rolloff sps l)
-rrc_in_lem rolloff sps (Length.Taps n) x = tt
-rrc_in_lem rolloff sps (Length.Refused why) x = x
+rrc_in_lem : (rolloff : Float) (sps : ℕ) (l : Result ℕ Refusal) → Listed (of_length l) → RrcListed (Rrc.rrc_in rolloff sps l)
+rrc_in_lem rolloff sps (Ok n) x = tt
+rrc_in_lem rolloff sps (Err why) x = x
 
 pub rrc_listed : (rolloff : Float) (sps span : ℕ) → RrcListed (Rrc.rrc_of rolloff sps span)
 unfolding Rrc.rrc_of report_of listed
 rrc_listed rolloff sps span = either_way RrcListed (Rrc.rolloff_taken rolloff) _ _ (rrc_in_lem rolloff sps (Rrc.rrc_len_of sps span) (rrc_len_listed sps span)) tt
 
-pub rrc_fitted_listed : (d : RrcDesigned) (len : ℕ) → RrcListed d → RrcListed (Rrc.fitted_of d len)
+pub rrc_fitted_listed : (d : Result Rrc Refusal) (len : ℕ) → RrcListed d → RrcListed (Rrc.fitted_of d len)
 unfolding report_of listed
-rrc_fitted_listed (RrcDesigned.Ready d) len l = either_way RrcListed (eqb d.n len) _ _ tt tt
-rrc_fitted_listed (RrcDesigned.Refused why) len l = l
+rrc_fitted_listed (Ok d) len l = either_way RrcListed (eqb d.n len) _ _ tt tt
+rrc_fitted_listed (Err why) len l = l
 
 -- ---- the channelizer
 edges_listed : (passband stopband a : Float) → Listed (Channelizer.edges_of passband stopband a)
@@ -214,18 +210,18 @@ edges_listed passband stopband a =
     let way = either_way Listed in
     way (positive passband) _ _ (way (Channelizer.stop_taken passband stopband) _ _ (way (Channelizer.attenuation_taken a) _ _ tt tt) tt) tt
 
-edges_taps : (v : Verdict) (num : Float) → Listed v → Listed (of_length (Channelizer.taps_in v num))
+edges_taps : (v : Result (Unit {0}) Refusal) (num : Float) → Listed v → Listed (of_length (Channelizer.taps_in v num))
 unfolding report_of listed
-edges_taps Done num l = either_way (λ (n : Length). Listed (of_length n)) (Channelizer.count_taken num) _ _ tt tt
-edges_taps (Refused why) num l = l
+edges_taps (Ok tt) num l = either_way (λ (n : Result ℕ Refusal). Listed (of_length n)) (Channelizer.count_taken num) _ _ tt tt
+edges_taps (Err why) num l = l
 
 pub channelizer_taps_listed : (m : ℕ) (passband stopband a : Float) → Listed (of_length (Channelizer.channelizer_taps_of m passband stopband a))
 unfolding Channelizer.channelizer_taps_of report_of listed
-channelizer_taps_listed m passband stopband a = either_way (λ (l : Length). Listed (of_length l)) (Channelizer.channels_taken m) _ _ (edges_taps (Channelizer.edges_of passband stopband a) _ (edges_listed passband stopband a)) tt
+channelizer_taps_listed m passband stopband a = either_way (λ (l : Result ℕ Refusal). Listed (of_length l)) (Channelizer.channels_taken m) _ _ (edges_taps (Channelizer.edges_of passband stopband a) _ (edges_listed passband stopband a)) tt
 
-pub branch_listed : (m : ℕ) (l : Length) → Listed (of_length l) → Listed (of_length (Channelizer.branch_of m l))
-branch_listed m (Length.Taps n) x = tt
-branch_listed m (Length.Refused why) x = x
+pub branch_listed : (m : ℕ) (l : Result ℕ Refusal) → Listed (of_length l) → Listed (of_length (Channelizer.branch_of m l))
+branch_listed m (Ok n) x = tt
+branch_listed m (Err why) x = x
 
 pub channelizer_listed : (m l : ℕ) (passband stopband a : Float) → LowpassListed (Channelizer.channelizer_lowpass_of m l passband stopband a)
 unfolding Channelizer.channelizer_lowpass_of report_of listed
@@ -237,10 +233,10 @@ channelizer_listed m l passband stopband a =
     tt)
     tt
 
-pub channelizer_fitted_listed : (d : Designed) (len : ℕ) → LowpassListed d → LowpassListed (Channelizer.fitted_of d len)
+pub channelizer_fitted_listed : (d : Result Lowpass Refusal) (len : ℕ) → LowpassListed d → LowpassListed (Channelizer.fitted_of d len)
 unfolding report_of listed
-channelizer_fitted_listed (Designed.Ready l) len x = either_way LowpassListed (eqb l.n len) _ _ tt tt
-channelizer_fitted_listed (Designed.Refused why) len x = x
+channelizer_fitted_listed (Ok l) len x = either_way LowpassListed (eqb l.n len) _ _ tt tt
+channelizer_fitted_listed (Err why) len x = x
 
 -- ---- sections
 pub biquad_listed : (r : Response) (centre q rate : Float) → Listed (biquad_of r centre q rate).verdict
@@ -264,11 +260,11 @@ butterworth_listed r order cutoff rate len =
 -- ---- numbers in other formats
 pub q15_listed : (i : ℕ) (x : Float) → Listed (of_coded (Q15.q15_tap_of i x))
 unfolding Q15.q15_tap_of report_of listed
-q15_listed i x = either_way (λ (c : Coded). Listed (of_coded c)) (Q15.takes x) _ _ tt tt
+q15_listed i x = either_way (λ (c : Result ℤ Refusal). Listed (of_coded c)) (Q15.takes x) _ _ tt tt
 
 pub q14_listed : (i : ℕ) (x : Float) → Listed (of_coded (Q14.q14_tap_of i x))
 unfolding Q14.q14_tap_of report_of listed
-q14_listed i x = either_way (λ (c : Coded). Listed (of_coded c)) (Q14.takes x) _ _ tt tt
+q14_listed i x = either_way (λ (c : Result ℤ Refusal). Listed (of_coded c)) (Q14.takes x) _ _ tt tt
 
 pub lengths_listed : (w g m len : ℕ) → Listed (lengths_of w g m len)
 unfolding lengths_of groups_of report_of listed
@@ -276,7 +272,7 @@ lengths_listed w g m len =
     let way = either_way Listed in
     way (eqb (m % 8) 0) _ _ (way (eqb (len % w) 0) _ _ (way (eqb (m / 8 % g) 0) _ _ (way (eqb (m / 8) (len / w)) _ _ tt tt) tt) tt) tt
 
-outside_listed : (f : Format) (i : ℕ) (x : Float) → Listed (Refused (outside_of f i x))
+outside_listed : (f : Format) (i : ℕ) (x : Float) → Listed (Err (outside_of f i x))
 unfolding outside_of report_of listed
 outside_listed Format.Q15 i x = tt
 outside_listed Format.Q14 i x = tt
@@ -286,11 +282,11 @@ pub taken_listed : (f : Format) (s : List Float) → Listed (taken_of (takes_of 
 unfolding taken_of
 taken_listed f s =
     let k = first_bad (takes_of f) s in
-    either_way Listed (eqb k (length s)) Done (Refused (outside_of f k (get_or s k nan))) tt (outside_listed f k (get_or s k nan))
+    either_way Listed (eqb k (length s)) (Ok tt) (Err (outside_of f k (get_or s k nan))) tt (outside_listed f k (get_or s k nan))
 
-pub then_listed : (v w : Verdict) → Listed v → Listed w → Listed (then_of v w)
-then_listed Done w l m = m
-then_listed (Refused why) w l m = l
+pub then_listed : (v w : Result (Unit {0}) Refusal) → Listed v → Listed w → Listed (then_of v w)
+then_listed (Ok tt) w l m = m
+then_listed (Err why) w l m = l
 
 -- ---- windows
 pub window_listed : (shape : Shape) (symmetry : Symmetry) (n : ℕ) → Listed (judgement_of shape symmetry n)
@@ -299,9 +295,9 @@ window_listed shape symmetry n =
     let way = either_way Listed in
     way (shape_taken shape) _ _ (way (series_settle shape (divisor_of symmetry n) n) _ _ tt tt) tt
 
-pub where_listed : (v : Verdict) (o : Outcome) → Listed v → Listed (answered o) → Listed (answered (where_passed v o))
-where_listed Done o l x = x
-where_listed (Refused why) o l x = l
+pub where_listed : (v : Result (Unit {0}) Refusal) (o : Outcome) → Listed v → Listed (answered o) → Listed (answered (where_passed v o))
+where_listed (Ok tt) o l x = x
+where_listed (Err why) o l x = l
 
 -- ---- a window of cosines that is loaded
 numbers_listed : (cs : List Float) → Listed (numbers_taken cs)
@@ -309,12 +305,12 @@ unfolding numbers_taken report_of listed
 numbers_listed [] = tt
 numbers_listed (x ∷ xs) = either_way Listed (within x) _ _ (numbers_listed xs) tt
 
-abbrev LoadListed : Loading → Type 0
+abbrev LoadListed : Result Cosines Refusal → Type 0
 LoadListed l = Listed (of_loading l)
 
-load_passed : (v : Verdict) (l : Loading) → Listed v → LoadListed l → LoadListed (Load.where_passed v l)
-load_passed Done l x y = y
-load_passed (Refused why) l x y = x
+load_passed : (v : Result (Unit {0}) Refusal) (l : Result Cosines Refusal) → Listed v → LoadListed l → LoadListed (Load.where_passed v l)
+load_passed (Ok tt) l x y = y
+load_passed (Err why) l x y = x
 
 pub load_listed : (cs : List Float) → LoadListed (load_of cs)
 unfolding load_of report_of listed

@@ -1,41 +1,37 @@
 -- What the definitions say of each kind of ticket, as a verdict: done where there is a design, a length, a number or
 -- figures, else refused. Definitions only.
-use Rattle.std.specs.Prelude.{ℕ, ◌-◌, ◌%◌, cond, List, eqb, length}
-use Rattle.verdict.specs.Numbers.{not_settled}
+use Rattle.std.specs.Prelude.{ℕ, ◌-◌, ◌%◌, cond, List, eqb, length, Err, Ok, Result, ℤ}
 use Rattle.verdict.specs.declared.Refusal.TheVariants as Refusal
-use Rattle.verdict.specs.declared.Verdict.{Verdict}
-use Rattle.verdict.specs.declared.Verdict.TheVariants.{Done, Refused}
-use Rattle.verdict.specs.declared.Length.{Length}
 use Rattle.math_bessel.specs.declared.Series.{Series}
 use Rattle.fir_length.specs.declared.order.Order.{Order}
-use Rattle.fir_delay.specs.declared.Delayed.{Delayed}
-use Rattle.fmt_q15.specs.declared.q15.Coded.{Coded}
-use Rattle.win_cosines.specs.declared.Loading.{Loading}
+use Rattle.verdict.specs.declared.Refusal.{Refusal}
+use Rattle.win_shapes.specs.declared.cosines.Cosines.{Cosines}
+use Rattle.verdict.specs.declared.Reason.TheVariants as Reason
 
 -- (of a design: `answered` in verdict/specs/Outcome)
-abbrev pub of_length : Length → Verdict
-of_length (Length.Taps n) = Done
-of_length (Length.Refused why) = Refused why
+abbrev pub of_length : Result ℕ Refusal → Result (Unit {0}) Refusal
+of_length (Ok n) = Ok tt
+of_length (Err why) = Err why
 
-abbrev pub of_order : Order → Verdict
-of_order (Order.Taps n beta) = Done
-of_order (Order.Refused why) = Refused why
+abbrev pub of_order : Order → Result (Unit {0}) Refusal
+of_order (Order.Taps n beta) = Ok tt
+of_order (Order.Refused why) = Err why
 
-abbrev pub of_delay : Delayed → Verdict
-of_delay (Delayed.HalfSamples n) = Done
-of_delay (Delayed.Refused why) = Refused why
+abbrev pub of_delay : Result ℕ Refusal → Result (Unit {0}) Refusal
+of_delay (Ok n) = Ok tt
+of_delay (Err why) = Err why
 
-abbrev pub of_coded : Coded → Verdict
-of_coded (Coded.Number q) = Done
-of_coded (Coded.Refused why) = Refused why
+abbrev pub of_coded : Result ℤ Refusal → Result (Unit {0}) Refusal
+of_coded (Ok q) = Ok tt
+of_coded (Err why) = Err why
 
-abbrev pub of_loading : Loading → Verdict
-of_loading (Loading.Loaded c) = Done
-of_loading (Loading.Refused why) = Refused why
+abbrev pub of_loading : Result Cosines Refusal → Result (Unit {0}) Refusal
+of_loading (Ok c) = Ok tt
+of_loading (Err why) = Err why
 
-abbrev pub of_series : Series → Verdict
-of_series s = cond s.settled Done (Refused (Refusal.Plain not_settled))
+abbrev pub of_series : Series → Result (Unit {0}) Refusal
+of_series s = cond s.settled (Ok tt) (Err (Refusal.Plain Reason.Unsettled))
 
 -- a window's gain, of a source of bytes: whole f32s have one
-abbrev pub of_samples : List ℕ → Verdict
-of_samples s = cond (eqb (length s % 4) 0) Done (Refused (Refusal.Length (length s - length s % 4) (length s)))
+abbrev pub of_samples : List ℕ → Result (Unit {0}) Refusal
+of_samples s = cond (eqb (length s % 4) 0) (Ok tt) (Err (Refusal.Length (length s - length s % 4) (length s)))

@@ -2,26 +2,24 @@
 -- before answered. Definitions only.
 --   "After any list of them, begun on a designed record, the record equals one designed from the last accepted numbers,
 --   and the kept value is always the series at the kept beta. A refused retune leaves the record."
-use Rattle.std.specs.Prelude.{ℕ, ◌≡◌, List, [], ◌∷◌, T, length, Float}
+use Rattle.std.specs.Prelude.{ℕ, ◌≡◌, List, [], ◌∷◌, T, length, Float, Ok, Result, Some}
 use Rattle.wire.specs.Bytes.{float_bytes}
 use Rattle.wire.specs.Writes.{Writes, written}
 use Rattle.fir_sinc.specs.declared.window.Window.{Window}
 use Rattle.fir_lowpass.specs.Lowpass.{outcome_of}
 use Rattle.fir_lowpass.specs.declared.lowpass.Lowpass.{Lowpass}
-use Rattle.fir_lowpass.specs.declared.lowpass.Designed.{Designed}
-use Rattle.fir_lowpass.specs.declared.lowpass.Designed.TheVariants.{Ready}
 use Rattle.fir_retune.specs.Retune.{where_kaiser}
 use Rattle.fir_retune.specs.Operations.{Numbers, designed_from, Operation, NewCutoff, NewBeta, placed, accepted_in}
 use Rattle.ticket_codes.specs.Codes.{window_of, has_code}
-use Rattle.ticket_codes.specs.declared.Coded.TheVariants.{Known}
 use Rattle.c_retune.specs.Designs.{design_as, fits_in}
 use Rattle.c_retune.specs.declared.record.Design.{Design}
 use Rattle.c_retune.specs.declared.write.Tuned.{Tuned}
+use Rattle.verdict.specs.declared.Refusal.{Refusal}
 
 -- ---- numbers alone
 -- what comes of an operation with a buffer of len bytes, where the numbers t were accepted last: 7 for a new beta of a
 -- window other than Kaiser's, then the buffer's 8 and 8, then what the numbers are designed to
-abbrev pub comes_with : Numbers → Operation → ℕ → Designed
+abbrev pub comes_with : Numbers → Operation → ℕ → Result Lowpass Refusal
 comes_with t (NewCutoff cutoff rate) len = fits_in t.n len (designed_from (placed t (NewCutoff cutoff rate)))
 comes_with t (NewBeta beta) len = where_kaiser t.window (fits_in t.n len (designed_from (placed t (NewBeta beta))))
 
@@ -34,7 +32,7 @@ accepted_with t o len = accepted_in t o (comes_with t o len)
 pub record DesignedAs (t : Numbers) (d : Design) : Type 0 where
   pub coded : T (has_code t.window)
   pub design : Lowpass
-  pub from : designed_from t ≡ Ready design
+  pub from : designed_from t ≡ Ok design
   pub is : d ≡ design_as design
 
 -- ---- a call
@@ -99,7 +97,7 @@ abbrev pub Begun : Numbers → Tuned → List ℕ → Type 0
 Begun t r after = DesignedAs t r.design × Shows t after
 
 abbrev pub Begins : Float → Float → ℕ → Float → ℕ → Tuned → List ℕ → Type 0
-Begins cutoff rate window beta n r after = (w : Window) → window_of window beta ≡ Known w → r.report.number ≡ 0 → Begun (record { cutoff = cutoff; rate = rate; window = w; n = n }) r after
+Begins cutoff rate window beta n r after = (w : Window) → window_of window beta ≡ Some w → r.report.number ≡ 0 → Begun (record { cutoff = cutoff; rate = rate; window = w; n = n }) r after
 
 -- ---- demand 1 of the record: a refusal leaves it
 abbrev pub LeavesRecord : Design → Tuned → Type 0

@@ -1,7 +1,7 @@
 -- No low-pass, half-band or window with a beta from 0 to 713 is told 16: every other way out of its judgement has another
 -- number. Assumes nothing.
 use Prim.Native.Nat.{ℕ, zero, suc, ◌-◌, ◌/◌, ◌%◌}
-use Rattle.std.specs.Prelude.{◌≡◌, refl, Bool, true, false, not, cond, List, T, eqb, length, Float}
+use Rattle.std.specs.Prelude.{◌≡◌, refl, Bool, true, false, not, cond, List, T, eqb, length, Float, Err, None, Ok, Result, Some}
 use Rattle.std.proofs.Common.{sym, ap, ◌∙◌, subst, true≢false}
 use Rattle.std.specs.Float.Ieee.{le}
 use Rattle.laws.specs.Binary64.{◌⊘◌, whole, fraction}
@@ -12,8 +12,6 @@ use Rattle.verdict.specs.Report.{report_of}
 use Rattle.verdict.specs.Outcome.{Outcome, answered, where_passed}
 use Rattle.verdict.specs.declared.Refusal.TheVariants as Refusal
 use Rattle.verdict.specs.declared.Report.{Report}
-use Rattle.verdict.specs.declared.Verdict.{Verdict}
-use Rattle.verdict.specs.declared.Verdict.TheVariants.{Done, Refused}
 use Rattle.wire.specs.Bytes.{float_bytes}
 use Rattle.wire.specs.Writes.{whole_elements, Writes}
 use Rattle.win_settling.specs.SettlingLaws.{settles_to_713}
@@ -25,22 +23,21 @@ use Rattle.fir_sinc.specs.Windows.{norm_of}
 use Rattle.fir_sinc.specs.declared.window.Window.{Window}
 use Rattle.fir_sinc.specs.declared.window.Window.TheVariants.{Kaiser}
 use Rattle.fir_lowpass.specs.Lowpass as Lowpass
-use Rattle.fir_lowpass.specs.declared.lowpass.Designed.{Designed}
 use Rattle.fir_halfband.specs.Halfband as Halfband
-use Rattle.fir_halfband.specs.declared.HalfbandDesigned.{HalfbandDesigned}
 use Rattle.ticket_codes.specs.Codes.{window_of}
 use Rattle.c_lowpass.specs.Lowpass.{lowpass_bytes}
 use Rattle.c_pulses.specs.Buffers.{halfband_bytes}
 use Rattle.c_windows.specs.Samples.{width_of, sample_bytes, window_bytes}
-use Rattle.c_windows.specs.declared.codes.Coded as SymmetryCode
-use Rattle.c_windows.specs.declared.codes.Coded.TheVariants as Symmetry
 use Rattle.c_windows.specs.declared.sample.Sample.{Sample}
 use Rattle.promise_refusals.specs.Listed.{heard}
 use Rattle.promise_refusals.proofs.ListedLaws.{outcome_heard}
 use Rattle.promise_settling.specs.Settling.{TakenTo713}
+use Rattle.fir_halfband.specs.declared.HalfbandDesign.{HalfbandDesign}
+use Rattle.fir_lowpass.specs.declared.lowpass.Lowpass.{Lowpass}
+use Rattle.verdict.specs.declared.Refusal.{Refusal}
 
 -- ---- a verdict that isn't 16
-abbrev Spared : Verdict → Type 0
+abbrev Spared : Result (Unit {0}) Refusal → Type 0
 Spared v = T (not (eqb (heard v) not_settled))
 
 -- the first of two, where its test holds
@@ -59,12 +56,12 @@ spared_told {o = o} w s e =
     subst (λ (k : ℕ). T (not (eqb k not_settled))) (sym told ∙ e) s
 
 -- ---- the low-pass
-abbrev LowpassSpared : Designed → Type 0
+abbrev LowpassSpared : Result Lowpass Refusal → Type 0
 LowpassSpared d = Spared (answered (Lowpass.outcome_of d))
 
-passed_spared : (v : Verdict) (d : Designed) → Spared v → LowpassSpared d → LowpassSpared (Lowpass.where_passed v d)
-passed_spared Done d l x = x
-passed_spared (Refused why) d l x = l
+passed_spared : (v : Result (Unit {0}) Refusal) (d : Result Lowpass Refusal) → Spared v → LowpassSpared d → LowpassSpared (Lowpass.where_passed v d)
+passed_spared (Ok tt) d l x = x
+passed_spared (Err why) d l x = l
 
 module _ (cutoff rate : Float) (w : Window) (n : ℕ) (e : Lowpass.series_settle w n ≡ true) where
   judgement_spared : Spared (Lowpass.judgement_of cutoff rate w n)
@@ -92,15 +89,15 @@ module _ (beta : Float) (s : T (le (whole 0) beta)) (t : T (le beta (whole 713))
   by_code cutoff rate (suc (suc (suc (suc code)))) len = tt
 
   -- the half-band, over its low-pass
-  of_quarter : (n : ℕ) (q : Designed) → LowpassSpared q → Spared (answered (Halfband.outcome_of (Halfband.halfband_in n q)))
+  of_quarter : (n : ℕ) (q : Result Lowpass Refusal) → LowpassSpared q → Spared (answered (Halfband.outcome_of (Halfband.halfband_in n q)))
   unfolding report_of
-  of_quarter n (Designed.Ready l) x = either_way (λ (d : HalfbandDesigned). Spared (answered (Halfband.outcome_of d))) (Lowpass.usable (Halfband.divisor_of l n)) _ _ tt tt
-  of_quarter n (Designed.Refused why) x = x
+  of_quarter n (Ok l) x = either_way (λ (d : Result HalfbandDesign Refusal). Spared (answered (Halfband.outcome_of d))) (Lowpass.usable (Halfband.divisor_of l n)) _ _ tt tt
+  of_quarter n (Err why) x = x
 
   halfband_spared : (n : ℕ) → Spared (answered (Halfband.outcome_of (Halfband.halfband_of beta n)))
   unfolding Halfband.halfband_of report_of
   halfband_spared n =
-      either_way (λ (d : HalfbandDesigned). Spared (answered (Halfband.outcome_of d))) (Halfband.length_taken n) _ _ (of_quarter n (Halfband.quarter_of beta n) (lowpass_spared (fraction 1 4) (whole 1) (Kaiser beta) n (kaiser_settles n))) tt
+      either_way (λ (d : Result HalfbandDesign Refusal). Spared (answered (Halfband.outcome_of d))) (Halfband.length_taken n) _ _ (of_quarter n (Halfband.quarter_of beta n) (lowpass_spared (fraction 1 4) (whole 1) (Kaiser beta) n (kaiser_settles n))) tt
 
   -- the window
   window_spared : (symmetry : Symmetry) (n : ℕ) → Spared (judgement_of (Shape.Kaiser beta) symmetry n)
@@ -108,14 +105,14 @@ module _ (beta : Float) (s : T (le (whole 0) beta)) (t : T (le beta (whole 713))
   window_spared symmetry n =
       either_way Spared (shape_taken (Shape.Kaiser beta)) _ _ (where_so Spared (Shapes.series_settle (Shape.Kaiser beta) (divisor_of symmetry n) n) _ _ (settles_to_713 beta (divisor_of symmetry n) n s t) tt) tt
 
-  where_spared : (v : Verdict) (o : Outcome) → Spared v → Spared (answered o) → Spared (answered (where_passed v o))
-  where_spared Done o l x = x
-  where_spared (Refused why) o l x = l
+  where_spared : (v : Result (Unit {0}) Refusal) (o : Outcome) → Spared v → Spared (answered o) → Spared (answered (where_passed v o))
+  where_spared (Ok tt) o l x = x
+  where_spared (Err why) o l x = l
 
   by_symmetry : (k : Sample) (c : SymmetryCode.Coded) (len : ℕ) → Spared (answered (window_bytes k (Shape.Kaiser beta) c len))
   unfolding report_of
-  by_symmetry k (Symmetry.Known symmetry) len = spared_whole (width_of k) len _ (where_spared (judgement_of (Shape.Kaiser beta) symmetry (len / width_of k)) _ (window_spared symmetry (len / width_of k)) tt)
-  by_symmetry k Symmetry.Unknown len = tt
+  by_symmetry k (Some symmetry) len = spared_whole (width_of k) len _ (where_spared (judgement_of (Shape.Kaiser beta) symmetry (len / width_of k)) _ (window_spared symmetry (len / width_of k)) tt)
+  by_symmetry k None len = tt
 
 -- ---- the exports
 pub lowpass_taken : (cutoff rate : Float) (window : ℕ) (beta : Float) {before after : List ℕ} {r : Report} → Writes float_bytes (lowpass_bytes cutoff rate (window_of window beta) (length before)) before r after → TakenTo713 beta r

@@ -1,5 +1,5 @@
 -- What is read after a conversion keeps its totals, a kind at a time.
-use Rattle.std.specs.Prelude.{◌≡◌, refl, Bool, cond, List, [], ◌∷◌, ℕ, zero, suc, ◌+◌, ◌*◌, ◌/◌, ◌%◌, ◌^◌, ◌≤◌, ℤ, pos, nat_abs, ◌+ℤ◌, ◌-ℤ◌, length, get_or, Float}
+use Rattle.std.specs.Prelude.{◌≡◌, refl, Bool, cond, List, [], ◌∷◌, ℕ, zero, suc, ◌+◌, ◌*◌, ◌/◌, ◌%◌, ◌^◌, ◌≤◌, ℤ, pos, nat_abs, ◌+ℤ◌, ◌-ℤ◌, length, get_or, Float, Err, Ok, Option, Result}
 use Rattle.std.proofs.Common.{sym, ap, ◌∙◌, subst, arith, eq-eqb}
 use Rattle.std.proofs.Math.Nat.{mod-one}
 use Rattle.std.specs.Float.{nan, binary64}
@@ -15,8 +15,6 @@ use Rattle.wire.specs.Laws.{length_bytes}
 use Rattle.wire.specs.Writes.{Writes, written}
 use Rattle.verdict.specs.Report.{accepted_of}
 use Rattle.verdict.specs.declared.Report.{Report}
-use Rattle.verdict.specs.declared.Verdict.{Verdict}
-use Rattle.verdict.specs.declared.Verdict.TheVariants.{Done, Refused}
 use Rattle.verdict.specs.Reports.{outcome_report, done_report}
 use Rattle.verdict.specs.Converts.{taken_of, then_of}
 use Rattle.verdict.specs.ConvertsLaws.{same_count}
@@ -27,7 +25,6 @@ use Rattle.c_formats.specs.declared.element.Format.TheVariants.{Q15}
 use Rattle.c_formats.specs.Formats.{width_of, takes_of, pattern_of, outside_of}
 use Rattle.c_formats.specs.Conversions.{floats, lengths_of, ConvertsBytes}
 use Rattle.c_formats.specs.ConversionLaws.{whole_elements}
-use Rattle.ticket_codes.specs.declared.Coded.{Coded}
 use Rattle.c_lowpass.specs.Lowpass.{lowpass_bytes}
 use Rattle.c_lowpass.specs.Prototype.{channelizer_bytes}
 use Rattle.c_lowpass.specs.Spec.{spec_bytes}
@@ -40,6 +37,8 @@ use Rattle.promise_totals.specs.Written.{Accepted, taps_in, Totals}
 use Rattle.promise_totals.proofs.WrittenLaws.{by_writes, lowpass_written, spec_written, halfband_written, gaussian_written, channelizer_written}
 use Rattle.promise_totals.specs.ReadCodes.{codes_back, q15_fits}
 use Rattle.promise_totals.specs.Filter.{Filters, sum_of_all}
+use Rattle.fir_sinc.specs.declared.window.Window.{Window}
+use Rattle.verdict.specs.declared.Refusal.{Refusal}
 
 -- ---- the numbers that are read are those that `q15_tap` makes
 -- an accepted conversion to Q15, in the words of Q15 alone
@@ -105,16 +104,16 @@ conversion_accepted n s out codes c v long room a =
     let whole : length s % 8 ≡ 0 = omega arith in
     let even : length out % 2 ≡ 0 = omega arith in
     let half : length s / 8 ≡ length out / 2 = omega arith in
-    let lengths : lengths_of 2 1 (length s) (length out) ≡ Done = whole_elements 2 1 (length s) (length out) whole even ∙ same_count 1 (length s / 8) (length out / 2) (mod-one (length s / 8)) half in
+    let lengths : lengths_of 2 1 (length s) (length out) ≡ (Ok tt) = whole_elements 2 1 (length s) (length out) whole even ∙ same_count 1 (length s / 8) (length out / 2) (mod-one (length s / 8)) half in
     let all = none_bad takes (floats s) (subst (λ (m : ℕ). Each takes (floats_in m s)) (sym k) a) in
     ap (λ (z : Report). z.number) v.answer
-    ∙ ap (λ (l : Verdict). (done_report (length s / 8) (then_of l (taken_of takes (outside_of Q15) (floats s)))).number) lengths
-    ∙ ap (λ (b : Bool). (done_report (length s / 8) (cond b Done (Refused (outside_of Q15 (first_bad takes (floats s)) (get_or (floats s) (first_bad takes (floats s)) nan))))).number) (eq-eqb (first_bad takes (floats s)) (length (floats s)) all)
+    ∙ ap (λ (l : Result (Unit {0}) Refusal). (done_report (length s / 8) (then_of l (taken_of takes (outside_of Q15) (floats s)))).number) lengths
+    ∙ ap (λ (b : Bool). (done_report (length s / 8) (cond b (Ok tt) (Err (outside_of Q15 (first_bad takes (floats s)) (get_or (floats s) (first_bad takes (floats s)) nan))))).number) (eq-eqb (first_bad takes (floats s)) (length (floats s)) all)
 
 -- ---- of each export and `pel_to_q15`: `Writes` is what the one ensures, `ConvertsBytes Q15 1` what the other does
 module _ {before taps out codes : List ℕ} {r c : Report} where
   -- `pel_lowpass` and `pel_lowpass_cosines`
-  pub lowpass_filter : (cutoff rate : Float) (w : Coded) → Writes float_bytes (lowpass_bytes cutoff rate w (length before)) before r taps → ConvertsBytes Q15 1 taps out c codes → Filters r taps c codes
+  pub lowpass_filter : (cutoff rate : Float) (w : Option Window) → Writes float_bytes (lowpass_bytes cutoff rate w (length before)) before r taps → ConvertsBytes Q15 1 taps out c codes → Filters r taps c codes
   lowpass_filter cutoff rate w h v = filter_total (lowpass_written cutoff rate w before taps r h) (whole_taps_lem (lowpass_bytes_sound cutoff rate w (length before)) h) v
 
   -- `pel_spec_design`

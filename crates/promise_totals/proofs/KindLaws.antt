@@ -1,7 +1,7 @@
 -- Each kind of design has taps that are raw values divided by their sum, the last divisor, and every tap is an f64.
 -- Assumes nothing.
 -- The channelizer's prototype and the design of a specification are low-passes.
-use Rattle.std.specs.Prelude.{◌≡◌, refl, ℕ, ◌+◌, ◌*◌, ◌≤◌, ◌<◌, T, ltb, Float}
+use Rattle.std.specs.Prelude.{◌≡◌, refl, ℕ, ◌+◌, ◌*◌, ◌≤◌, ◌<◌, T, ltb, Float, Ok}
 use Rattle.std.proofs.Common.{sym, subst, lt-ltb, le-ltb}
 use Rattle.std.specs.Float.{binary64}
 use Rattle.std.specs.Float.Ieee.{fits}
@@ -13,15 +13,12 @@ use Rattle.fir_lowpass.specs.Lowpass as Lowpass
 use Rattle.fir_lowpass.proofs.LowpassLaws.{designed, ready_is, ready_with, count_least, count_most}
 use Rattle.fir_sinc.specs.declared.window.Window.{Window}
 use Rattle.fir_lowpass.specs.declared.lowpass.Lowpass.{Lowpass}
-use Rattle.fir_lowpass.specs.declared.lowpass.Designed.TheVariants as Designed
 use Rattle.fir_halfband.specs.Halfband as Halfband
 use Rattle.fir_halfband.specs.HalfbandLaws as HalfbandLaws
 use Rattle.fir_halfband.specs.declared.HalfbandDesign.{HalfbandDesign}
-use Rattle.fir_halfband.specs.declared.HalfbandDesigned.TheVariants as HalfbandDesigned
 use Rattle.fir_gaussian.specs.Gaussian as Gaussian
 use Rattle.fir_gaussian.specs.GaussianLaws as GaussianLaws
 use Rattle.fir_gaussian.specs.declared.gaussian_design.Gaussian.{Gaussian}
-use Rattle.fir_gaussian.specs.declared.gaussian_design.GaussianDesigned.TheVariants as GaussianDesigned
 use Rattle.promise_totals.proofs.Normalised.{Normalised}
 
 nought_fits : T (fits binary64 (whole 0))
@@ -41,7 +38,7 @@ unfolding Lowpass.tap_of
 lowpass_tap_fits l i = cond-fits binary64 (ltb 16777216 l.n) _ _ nought_fits (cond-fits binary64 (ltb i l.n) _ _ (div-fits binary64 _ _) nought_fits)
 
 -- whatever its window is divided by
-pub with_normalised : (cutoff rate : Float) (w : Window) (i0 : Float) (n : ℕ) (l : Lowpass) → Lowpass.lowpass_with cutoff rate w i0 n ≡ Designed.Ready l → Normalised l.n l.sum (Lowpass.tap_of l)
+pub with_normalised : (cutoff rate : Float) (w : Window) (i0 : Float) (n : ℕ) (l : Lowpass) → Lowpass.lowpass_with cutoff rate w i0 n ≡ Ok l → Normalised l.n l.sum (Lowpass.tap_of l)
 unfolding Lowpass.divisor_of
 with_normalised cutoff rate w i0 n l e =
     let a = ready_with cutoff rate w i0 n l e in
@@ -67,7 +64,7 @@ pub halfband_tap_fits : (d : HalfbandDesign) (i : ℕ) → T (fits binary64 (Hal
 unfolding Halfband.tap_of
 halfband_tap_fits d i = cond-fits binary64 (ltb i d.n) _ _ (div-fits binary64 _ _) nought_fits
 
-pub halfband_normalised : (beta : Float) (n : ℕ) (d : HalfbandDesign) → Halfband.halfband_of beta n ≡ HalfbandDesigned.Ready d → Normalised d.n d.sum (Halfband.tap_of d)
+pub halfband_normalised : (beta : Float) (n : ℕ) (d : HalfbandDesign) → Halfband.halfband_of beta n ≡ Ok d → Normalised d.n d.sum (Halfband.tap_of d)
 unfolding Halfband.divisor_of
 halfband_normalised beta n d e =
     let a = HalfbandLaws.accepted beta n d e in
@@ -95,7 +92,7 @@ pub gaussian_tap_fits : (g : Gaussian) (i : ℕ) → T (fits binary64 (Gaussian.
 unfolding Gaussian.tap_of
 gaussian_tap_fits g i = cond-fits binary64 (ltb 16777216 g.n) _ _ nought_fits (cond-fits binary64 (ltb i g.n) _ _ (div-fits binary64 _ _) nought_fits)
 
-pub gaussian_normalised : (bt : Float) (sps span : ℕ) (g : Gaussian) → Gaussian.gaussian_of bt sps span ≡ GaussianDesigned.Ready g → Normalised g.n g.sum (Gaussian.tap_of g)
+pub gaussian_normalised : (bt : Float) (sps span : ℕ) (g : Gaussian) → Gaussian.gaussian_of bt sps span ≡ Ok g → Normalised g.n g.sum (Gaussian.tap_of g)
 unfolding Gaussian.made_of
 gaussian_normalised bt sps span g e =
     let a = GaussianLaws.accepted bt sps span g e in

@@ -1,7 +1,7 @@
 -- A real ticket of each kind meets every premise of both totals: it is accepted, its last divisor and its taps are
 -- finite, Q15 takes each of them and none saturates. So both totals stand for it with no premise left, in bytes, after a
 -- conversion and in a slice, and the mirror and a zero of a half-band. Assumes nothing.
-use Rattle.std.specs.Prelude.{◌≡◌, refl, Bool, true, false, ◌&&◌, List, [], ◌∷◌, T, eqb, length, take, drop, get_or, Float}
+use Rattle.std.specs.Prelude.{◌≡◌, refl, Bool, true, false, ◌&&◌, List, [], ◌∷◌, T, eqb, length, take, drop, get_or, Float, Result}
 use Rattle.std.proofs.Common.{sym, ap, ◌∙◌, subst, arith}
 use Prim.Native.Nat.{ℕ, ◌-◌, ◌*◌, ◌/◌, ◌%◌, ◌<◌}
 use Rattle.std.specs.Float.{nan}
@@ -27,7 +27,6 @@ use Rattle.math_bessel.specs.Series.{series_of}
 use Rattle.win_settling.specs.Settling.{kaiser_settles}
 use Rattle.fir_length.specs.Kaiser.{beta_of, order_of}
 use Rattle.fmt_q15.specs.Q15.{moved, takes}
-use Rattle.verdict.specs.declared.Verdict.{Verdict}
 use Rattle.verdict.specs.Outcome.{Outcome, Fills}
 use Rattle.fir_sinc.specs.Windows.{window_at, norm_of}
 use Rattle.fir_sinc.specs.declared.window.Window.TheVariants.{Hann}
@@ -63,6 +62,7 @@ use Rattle.promise_totals.specs.Slices.{IsDone, SliceTotals}
 use Rattle.promise_totals.proofs.SlicesLaws.{lowpass_filled, spec_filled, gaussian_filled, channelizer_filled, by_taps, halfband_filled, halfband_mirrors}
 use Rattle.promise_totals.specs.Filter.{FilterTotal}
 use Rattle.promise_totals.proofs.FilterLaws.{WholeTaps, whole_taps_lem, filter_total, conversion_accepted}
+use Rattle.verdict.specs.declared.Refusal.{Refusal}
 
 -- ---- the premises
 pub record Premises (r : Report) (after : List ℕ) : Type 0 where
@@ -246,12 +246,12 @@ module _ (before : List ℕ) (e : length before ≡ 56) where
       (λ z. let none : distance 7 1 ≡ 0 = subst (λ (n : ℕ). distance n 1 ≡ 0) seven z in omega (arith, none))
 
 -- ---- the same of a slice, by what each function ensures of these tickets
-pub record SliceStands (r : Verdict) (after : List Float) : Type 0 where
+pub record SliceStands (r : Result (Unit {0}) Refusal) (after : List Float) : Type 0 where
   pub accepted : IsDone r
   pub taps : TapTotal after
   pub codes : Q15Total after
 
-slice_stands : (o : Outcome) {before after : List Float} {r : Verdict} → Counted (length before) o → T (met o) → Fills o before r after → SliceTotals o r after → SliceStands r after
+slice_stands : (o : Outcome) {before after : List Float} {r : Result (Unit {0}) Refusal} → Counted (length before) o → T (met o) → Fills o before r after → SliceTotals o r after → SliceStands r after
 unfolding met
 slice_stands (Outcome.Designed n divisor tap) e m f t =
     let k = subst (Meets divisor) (sym (f.buffer ∙ ap (λ (m : ℕ). tabulate m tap) (sym e))) (by_test n divisor tap m) in
@@ -263,11 +263,11 @@ of_count : (made : ℕ → Outcome) (n : ℕ) (before : List Float) → length b
 of_count made n before e m = subst (λ (k : ℕ). T (met (made k))) (sym e) m
 
 -- a slice keeps its length
-same_length : (o : Outcome) {before after : List Float} {r : Verdict} → Fills o before r after → length after ≡ length before
+same_length : (o : Outcome) {before after : List Float} {r : Result (Unit {0}) Refusal} → Fills o before r after → length after ≡ length before
 same_length (Outcome.Designed n divisor tap) {before} f = ap length f.buffer ∙ length_tabulate (length before) tap
 same_length (Outcome.Refused why) f = ap length f.buffer
 
-module _ (before : List Float) {after : List Float} {r : Verdict} where
+module _ (before : List Float) {after : List Float} {r : Result (Unit {0}) Refusal} where
   pub lowpass_slice_stands : length before ≡ 5 → Fills (Lowpass.outcome_of (Lowpass.lowpass_of (fraction 1 4) (whole 1) Hann (length before))) before r after → SliceStands r after
   unfolding window_of
   lowpass_slice_stands e f =

@@ -1,5 +1,5 @@
 -- The taps of a half-band mirror and vanish where half-bands do: of any outcome, and of the export.
-use Rattle.std.specs.Prelude.{◌≡◌, refl, List, ℕ, ◌-◌, ◌*◌, ◌/◌, ◌%◌, ◌<◌, eqb, length, take, drop, Float}
+use Rattle.std.specs.Prelude.{◌≡◌, refl, List, ℕ, ◌-◌, ◌*◌, ◌/◌, ◌%◌, ◌<◌, eqb, length, take, drop, Float, Err, Ok, Result}
 use Rattle.std.proofs.Common.{sym, ap, ◌∙◌, subst, arith}
 use Rattle.std.specs.Float.{binary64}
 use Rattle.std.specs.Float.Ieee.{to_bits}
@@ -15,8 +15,6 @@ use Rattle.fir_halfband.specs.Halfband.{halfband_of, tap_of, outcome_of}
 use Rattle.fir_halfband.specs.HalfbandLaws.{accepted}
 use Rattle.fir_halfband.specs.Mirror.{IsZero, mirror, zero_taps}
 use Rattle.fir_halfband.specs.declared.HalfbandDesign.{HalfbandDesign}
-use Rattle.fir_halfband.specs.declared.HalfbandDesigned.{HalfbandDesigned}
-use Rattle.fir_halfband.specs.declared.HalfbandDesigned.TheVariants.{Ready, Refused}
 use Rattle.c_pulses.specs.Buffers.{halfband_bytes}
 use Rattle.verdict.specs.Reports.{outcome_report}
 use Rattle.wire.specs.Writes.{Writes, written}
@@ -24,15 +22,16 @@ use Rattle.promise_totals.proofs.Sound.{Sound, halfband_bytes_sound}
 use Rattle.promise_totals.proofs.WrittenLaws.{by_writes}
 use Rattle.laws.specs.Cases.{either_way}
 use Rattle.promise_totals.specs.Mirror.{Mirrored, Symmetric, Vanishes, WhereMade}
+use Rattle.verdict.specs.declared.Refusal.{Refusal}
 
 pub halfband_symmetric : (beta : Float) (n : ℕ) → WhereMade (outcome_of (halfband_of beta n))
 halfband_symmetric beta n = go (halfband_of beta n) refl
   where
-    go : (d : HalfbandDesigned) → halfband_of beta n ≡ d → WhereMade (outcome_of d)
-    go (Ready d) e =
+    go : (d : Result HalfbandDesign Refusal) → halfband_of beta n ≡ d → WhereMade (outcome_of d)
+    go (Ok d) e =
         let count : d.n ≡ n = ap (λ (z : HalfbandDesign). z.n) (accepted beta n d e).is in
         subst (λ (m : ℕ). Symmetric m (tap_of d)) (sym count) (record { mirrored = mirror beta n d e; zeros = zero_taps beta n d e })
-    go (Refused why) e = tt
+    go (Err why) e = tt
 
 pub bytes_symmetric : (beta : Float) (len : ℕ) → WhereMade (halfband_bytes beta len)
 bytes_symmetric beta len = either_way WhereMade (eqb (len % 8) 0) (outcome_of (halfband_of beta (len / 8))) (Outcome.Refused (Refusal.Length (len - len % 8) len)) (halfband_symmetric beta (len / 8)) tt

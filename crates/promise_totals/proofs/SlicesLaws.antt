@@ -1,12 +1,11 @@
 -- The totals of what fills a slice, a kind at a time.
-use Rattle.std.specs.Prelude.{◌≡◌, List, ℕ, ◌-◌, ◌%◌, ◌<◌, length, get_or, Float}
+use Rattle.std.specs.Prelude.{◌≡◌, List, ℕ, ◌-◌, ◌%◌, ◌<◌, length, get_or, Float, Err, Ok, Result}
 use Rattle.std.proofs.Common.{sym, ap, ◌∙◌, subst, arith}
 use Rattle.std.specs.Float.{nan}
 use Rattle.laws.specs.Filled.{tabulate, tabulate_below, length_tabulate, get_d_tabulate}
 use Rattle.verdict.specs.Counted.{Counted}
 use Rattle.verdict.specs.Outcome.{Outcome, Fills, Agrees}
 use Rattle.verdict.specs.declared.Refusal.{Refusal}
-use Rattle.verdict.specs.declared.Verdict.{Verdict}
 use Rattle.fir_sinc.specs.declared.window.Window.{Window}
 use Rattle.fir_lowpass.specs.Lowpass as Lowpass
 use Rattle.fir_lowpass.proofs.LowpassLaws.{lowpass_count}
@@ -30,10 +29,10 @@ use Rattle.promise_totals.specs.Slices.{SliceMirrors, SliceTotals}
 
 -- ---- of any outcome
 -- a refusal isn't done
-never : {A : Type 0} (why : Refusal) → Verdict.Refused why ≡ Verdict.Done → A
+never : {A : Type 0} (why : Refusal) → Err why ≡ Ok tt → A
 never why e = let z : ◌≡◌ {A = ℕ} 0 1 = cc in absurd (omega arith)
 
-module _ {before after : List Float} {r : Verdict} where
+module _ {before after : List Float} {r : Result (Unit {0}) Refusal} where
   -- a slice that is filled by a design of as many taps as it has elements
   taps_are : (n : ℕ) (divisor : Float) (tap : ℕ → Float) → n ≡ length before → Fills (Outcome.Designed n divisor tap) before r after → after ≡ tabulate n tap
   taps_are n divisor tap e f = f.buffer ∙ ap (λ (m : ℕ). tabulate m tap) (sym e)
@@ -72,10 +71,10 @@ module _ {before after : List Float} {r : Verdict} where
   }
   fills_agreed (Outcome.Designed n s t) (Outcome.Refused why) a e f = absurd a
   fills_agreed (Outcome.Refused why) (Outcome.Designed m u v) a e f = absurd a
-  fills_agreed (Outcome.Refused why) (Outcome.Refused other) a e f = record { answer = f.answer ∙ ap Verdict.Refused a; buffer = f.buffer }
+  fills_agreed (Outcome.Refused why) (Outcome.Refused other) a e f = record { answer = f.answer ∙ ap Err a; buffer = f.buffer }
 
 -- ---- of each function; `Fills` is what it ensures
-module _ {before after : List Float} {r : Verdict} where
+module _ {before after : List Float} {r : Result (Unit {0}) Refusal} where
   -- `firwin_lowpass`
   pub lowpass_filled : (cutoff rate : Float) (w : Window) → Fills (Lowpass.outcome_of (Lowpass.lowpass_of cutoff rate w (length before))) before r after → SliceTotals (Lowpass.outcome_of (Lowpass.lowpass_of cutoff rate w (length before))) r after
   lowpass_filled cutoff rate w = of_fills _ (lowpass_made cutoff rate w (length before)) (lowpass_count cutoff rate w (length before))

@@ -1,6 +1,6 @@
 -- What comes of an export's numbers, whatever they are: taps that are raw values divided by their sum, or a refusal
 -- whose number is not 0. Assumes nothing.
-use Rattle.std.specs.Prelude.{◌≡◌, refl, ℕ, ◌-◌, ◌*◌, ◌/◌, ◌%◌, T, eqb, Float}
+use Rattle.std.specs.Prelude.{◌≡◌, refl, ℕ, ◌-◌, ◌*◌, ◌/◌, ◌%◌, T, eqb, Float, Err, None, Ok, Option, Result, Some}
 use Rattle.std.specs.Float.{binary64}
 use Rattle.std.specs.Float.Ieee.{fits}
 use Rattle.laws.specs.Binary64.{◌⊕◌, ◌⊗◌, ◌⊘◌, whole}
@@ -8,7 +8,6 @@ use Rattle.laws.specs.Cases.{either_way}
 use Rattle.verdict.specs.Report.{report_of}
 use Rattle.verdict.specs.Outcome.{Outcome, answered}
 use Rattle.verdict.specs.declared.Refusal.{Refusal}
-use Rattle.verdict.specs.declared.Verdict.{Verdict}
 use Rattle.wire.specs.Writes.{whole_taps}
 use Rattle.fir_length.specs.Kaiser.{beta_of}
 use Rattle.fir_length.specs.declared.order.Order.{Order}
@@ -16,19 +15,14 @@ use Rattle.fir_sinc.specs.Windows.{norm_of}
 use Rattle.fir_sinc.specs.declared.window.Window.{Window}
 use Rattle.fir_sinc.specs.declared.window.Window.TheVariants.{Kaiser}
 use Rattle.fir_lowpass.specs.Lowpass as Lowpass
-use Rattle.fir_lowpass.specs.declared.lowpass.Designed.{Designed}
 use Rattle.fir_spec.specs.Spec.{spec_order_of, design_in, spec_design_of}
 use Rattle.fir_spec.specs.declared.DesignSpec.{DesignSpec}
 use Rattle.fir_halfband.specs.Halfband as Halfband
-use Rattle.fir_halfband.specs.declared.HalfbandDesigned.{HalfbandDesigned}
 use Rattle.fir_gaussian.specs.Gaussian as Gaussian
-use Rattle.fir_gaussian.specs.declared.gaussian_design.GaussianDesigned.{GaussianDesigned}
 use Rattle.fir_channelizer.specs.Channelizer as Channelizer
 use Rattle.c_lowpass.specs.Lowpass.{lowpass_bytes}
 use Rattle.c_lowpass.specs.Prototype.{channelizer_bytes}
 use Rattle.c_lowpass.specs.Spec.{spec_bytes}
-use Rattle.ticket_codes.specs.declared.Coded.{Coded}
-use Rattle.ticket_codes.specs.declared.Coded.TheVariants.{Known, Unknown}
 use Rattle.c_retune.specs.Designs.{lowpass_for, cutoff_for, beta_for}
 use Rattle.c_retune.specs.DesignsLaws.{lowpass_has, cutoff_has, beta_has}
 use Rattle.c_retune.specs.declared.record.Design.{Design}
@@ -38,6 +32,9 @@ use Rattle.promise_refusals.proofs.ListedLaws.{never_zero}
 use Rattle.promise_refusals.specs.Exports as Exports
 use Rattle.promise_totals.proofs.Normalised.{Normalised}
 use Rattle.promise_totals.proofs.KindLaws.{with_normalised, lowpass_tap_fits, halfband_normalised, halfband_tap_fits, gaussian_normalised, gaussian_tap_fits}
+use Rattle.fir_gaussian.specs.declared.gaussian_design.Gaussian.{Gaussian}
+use Rattle.fir_halfband.specs.declared.HalfbandDesign.{HalfbandDesign}
+use Rattle.fir_lowpass.specs.declared.lowpass.Lowpass.{Lowpass}
 
 -- ---- what is shown
 -- of an accepted ticket the taps, each an f64
@@ -67,23 +64,23 @@ whole_made len o x = either_way Made (eqb (len % 8) 0) o (Outcome.Refused (Refus
 pub with_made : (cutoff rate : Float) (w : Window) (i0 : Float) (n : ℕ) → Made (Lowpass.outcome_of (Lowpass.lowpass_with cutoff rate w i0 n))
 with_made cutoff rate w i0 n = go (Lowpass.lowpass_with cutoff rate w i0 n) refl
   where
-    go : (d : Designed) → Lowpass.lowpass_with cutoff rate w i0 n ≡ d → Made (Lowpass.outcome_of d)
-    go (Designed.Ready l) e = (with_normalised cutoff rate w i0 n l e, lowpass_tap_fits l)
-    go (Designed.Refused why) e = tt
+    go : (d : Result Lowpass Refusal) → Lowpass.lowpass_with cutoff rate w i0 n ≡ d → Made (Lowpass.outcome_of d)
+    go (Ok l) e = (with_normalised cutoff rate w i0 n l e, lowpass_tap_fits l)
+    go (Err why) e = tt
 
 pub lowpass_made : (cutoff rate : Float) (w : Window) (n : ℕ) → Made (Lowpass.outcome_of (Lowpass.lowpass_of cutoff rate w n))
 unfolding Lowpass.lowpass_of
 lowpass_made cutoff rate w n = with_made cutoff rate w (norm_of w) n
 
-pub lowpass_bytes_sound : (cutoff rate : Float) (c : Coded) (len : ℕ) → Sound (lowpass_bytes cutoff rate c len)
+pub lowpass_bytes_sound : (cutoff rate : Float) (c : Option Window) (len : ℕ) → Sound (lowpass_bytes cutoff rate c len)
 lowpass_bytes_sound cutoff rate c len = sound (lowpass_bytes cutoff rate c len) (go c) (Exports.lowpass_bytes_lem cutoff rate c len)
   where
-    go : (c : Coded) → Made (lowpass_bytes cutoff rate c len)
-    go (Known w) = whole_made len _ (lowpass_made cutoff rate w (len / 8))
-    go Unknown = tt
+    go : (c : Option Window) → Made (lowpass_bytes cutoff rate c len)
+    go (Some w) = whole_made len _ (lowpass_made cutoff rate w (len / 8))
+    go None = tt
 
 -- ---- the low-pass whose record is kept, and the turns of its knob, of any record
-abbrev DesignMade : Designed → Type 0
+abbrev DesignMade : Result Lowpass Refusal → Type 0
 DesignMade d = Made (Lowpass.outcome_of d)
 
 pub design_lowpass_sound : (cutoff rate : Float) (window : ℕ) (beta : Float) (len : ℕ) → Sound (Lowpass.outcome_of (lowpass_for cutoff rate window beta len))
@@ -101,7 +98,7 @@ unfolding spec_design_of
 spec_made spec rate cap len = go (spec_order_of spec rate cap)
   where
     go : (o : Order) → Made (Lowpass.outcome_of (design_in spec rate len o))
-    go (Order.Taps n beta) = either_way (λ (d : Designed). Made (Lowpass.outcome_of d)) (eqb n len) (Lowpass.lowpass_of spec.cutoff rate (Kaiser beta) n) _ (lowpass_made spec.cutoff rate (Kaiser beta) n) tt
+    go (Order.Taps n beta) = either_way (λ (d : Result Lowpass Refusal). Made (Lowpass.outcome_of d)) (eqb n len) (Lowpass.lowpass_of spec.cutoff rate (Kaiser beta) n) _ (lowpass_made spec.cutoff rate (Kaiser beta) n) tt
     go (Order.Refused why) = tt
 
 pub spec_bytes_sound : (spec : DesignSpec) (rate : Float) (m len : ℕ) → Sound (spec_bytes spec rate m len)
@@ -111,9 +108,9 @@ spec_bytes_sound spec rate m len = sound (spec_bytes spec rate m len) (whole_mad
 pub halfband_made : (beta : Float) (n : ℕ) → Made (Halfband.outcome_of (Halfband.halfband_of beta n))
 halfband_made beta n = go (Halfband.halfband_of beta n) refl
   where
-    go : (d : HalfbandDesigned) → Halfband.halfband_of beta n ≡ d → Made (Halfband.outcome_of d)
-    go (HalfbandDesigned.Ready d) e = (halfband_normalised beta n d e, halfband_tap_fits d)
-    go (HalfbandDesigned.Refused why) e = tt
+    go : (d : Result HalfbandDesign Refusal) → Halfband.halfband_of beta n ≡ d → Made (Halfband.outcome_of d)
+    go (Ok d) e = (halfband_normalised beta n d e, halfband_tap_fits d)
+    go (Err why) e = tt
 
 pub halfband_bytes_sound : (beta : Float) (len : ℕ) → Sound (halfband_bytes beta len)
 halfband_bytes_sound beta len = sound (halfband_bytes beta len) (whole_made len _ (halfband_made beta (len / 8))) (Exports.halfband_bytes_lem beta len)
@@ -122,26 +119,26 @@ halfband_bytes_sound beta len = sound (halfband_bytes beta len) (whole_made len 
 pub gaussian_made : (bt : Float) (sps span len : ℕ) → Made (Gaussian.outcome_of (Gaussian.fitted_of (Gaussian.gaussian_of bt sps span) len))
 gaussian_made bt sps span len = go (Gaussian.gaussian_of bt sps span) refl
   where
-    go : (d : GaussianDesigned) → Gaussian.gaussian_of bt sps span ≡ d → Made (Gaussian.outcome_of (Gaussian.fitted_of d len))
-    go (GaussianDesigned.Ready g) e = either_way (λ (d : GaussianDesigned). Made (Gaussian.outcome_of d)) (eqb g.n len) _ _ (gaussian_normalised bt sps span g e, gaussian_tap_fits g) tt
-    go (GaussianDesigned.Refused why) e = tt
+    go : (d : Result Gaussian Refusal) → Gaussian.gaussian_of bt sps span ≡ d → Made (Gaussian.outcome_of (Gaussian.fitted_of d len))
+    go (Ok g) e = either_way (λ (d : Result Gaussian Refusal). Made (Gaussian.outcome_of d)) (eqb g.n len) _ _ (gaussian_normalised bt sps span g e, gaussian_tap_fits g) tt
+    go (Err why) e = tt
 
 pub gaussian_bytes_sound : (bt : Float) (sps span len : ℕ) → Sound (gaussian_bytes bt sps span len)
 gaussian_bytes_sound bt sps span len = sound (gaussian_bytes bt sps span len) (whole_made len _ (gaussian_made bt sps span (len / 8))) (Exports.gaussian_bytes_lem bt sps span len)
 
 -- ---- the channelizer's prototype
-edges_made : (v : Verdict) (d : Designed) → Made (Lowpass.outcome_of d) → Made (Lowpass.outcome_of (Lowpass.where_passed v d))
-edges_made Verdict.Done d x = x
-edges_made (Verdict.Refused why) d x = tt
+edges_made : (v : Result (Unit {0}) Refusal) (d : Result Lowpass Refusal) → Made (Lowpass.outcome_of d) → Made (Lowpass.outcome_of (Lowpass.where_passed v d))
+edges_made (Ok tt) d x = x
+edges_made (Err why) d x = tt
 
-fitted_made : (d : Designed) (len : ℕ) → Made (Lowpass.outcome_of d) → Made (Lowpass.outcome_of (Channelizer.fitted_of d len))
-fitted_made (Designed.Ready l) len x = either_way (λ (d : Designed). Made (Lowpass.outcome_of d)) (eqb l.n len) _ _ x tt
-fitted_made (Designed.Refused why) len x = tt
+fitted_made : (d : Result Lowpass Refusal) (len : ℕ) → Made (Lowpass.outcome_of d) → Made (Lowpass.outcome_of (Channelizer.fitted_of d len))
+fitted_made (Ok l) len x = either_way (λ (d : Result Lowpass Refusal). Made (Lowpass.outcome_of d)) (eqb l.n len) _ _ x tt
+fitted_made (Err why) len x = tt
 
 pub channelizer_made : (m l : ℕ) (passband stopband a : Float) (len : ℕ) → Made (Lowpass.outcome_of (Channelizer.fitted_of (Channelizer.channelizer_lowpass_of m l passband stopband a) len))
 unfolding Channelizer.channelizer_lowpass_of
 channelizer_made m l passband stopband a len =
-    let way = either_way (λ (d : Designed). Made (Lowpass.outcome_of d)) in
+    let way = either_way (λ (d : Result Lowpass Refusal). Made (Lowpass.outcome_of d)) in
     fitted_made (Channelizer.channelizer_lowpass_of m l passband stopband a) len
     (way (Channelizer.channels_taken m) _ _
     (way (Channelizer.branch_taken l) _ _

@@ -1,5 +1,5 @@
 -- The totals of what an export writes, a kind at a time.
-use Rattle.std.specs.Prelude.{List, ℕ, length, Float}
+use Rattle.std.specs.Prelude.{List, ℕ, length, Float, Option}
 use Rattle.std.proofs.Common.{sym, subst}
 use Rattle.wire.specs.Bytes.{float_bytes}
 use Rattle.wire.specs.Read.{floats_back}
@@ -7,7 +7,6 @@ use Rattle.verdict.specs.Report.{accepted_of}
 use Rattle.verdict.specs.declared.Report.{Report}
 use Rattle.verdict.specs.Outcome.{Outcome}
 use Rattle.fir_spec.specs.declared.DesignSpec.{DesignSpec}
-use Rattle.ticket_codes.specs.declared.Coded.{Coded}
 use Rattle.c_lowpass.specs.Lowpass.{lowpass_bytes}
 use Rattle.c_lowpass.specs.Prototype.{channelizer_bytes}
 use Rattle.fir_lowpass.specs.Lowpass.{outcome_of}
@@ -20,6 +19,7 @@ use Rattle.wire.specs.Writes.{Writes, written}
 use Rattle.promise_totals.proofs.Normalised.{Promised, normalised_promised}
 use Rattle.promise_totals.proofs.Sound.{Sound, lowpass_bytes_sound, design_lowpass_sound, design_cutoff_sound, design_beta_sound, spec_bytes_sound, halfband_bytes_sound, gaussian_bytes_sound, channelizer_bytes_sound}
 use Rattle.promise_totals.specs.Written.{Totals}
+use Rattle.fir_sinc.specs.declared.window.Window.{Window}
 
 -- ---- of any outcome
 -- what holds of an outcome's report and buffer holds of what an export answers and leaves
@@ -38,7 +38,7 @@ of_writes {o} {before} s w = by_writes Totals w (sound_totals o before s)
 
 -- ---- of each export; `Writes` is what it ensures
 -- `pel_lowpass`, by what its code stands for, and `pel_lowpass_cosines`, by its loaded window
-pub lowpass_written : (cutoff rate : Float) (w : Coded) (before after : List ℕ) (r : Report) → Writes float_bytes (lowpass_bytes cutoff rate w (length before)) before r after → Totals r after
+pub lowpass_written : (cutoff rate : Float) (w : Option Window) (before after : List ℕ) (r : Report) → Writes float_bytes (lowpass_bytes cutoff rate w (length before)) before r after → Totals r after
 lowpass_written cutoff rate w before after r h = of_writes (lowpass_bytes_sound cutoff rate w (length before)) h
 
 -- `pel_design_lowpass`, `pel_design_new_cutoff` and `pel_design_new_beta`

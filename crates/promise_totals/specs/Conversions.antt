@@ -1,7 +1,7 @@
 -- Bytes and lists are one conversion: what `pel_to_q15` answers and leaves in a destination of bytes is what `to_q15`
 -- answers and leaves in the list that those bytes are, refusals and what stands before them included. The same of every
 -- format. Assumes nothing.
-use Rattle.std.specs.Prelude.{◌≡◌, true, List, ℕ, ◌*◌, ◌/◌, ◌%◌, ◌≤◌, get_or, ℤ, pos, Float}
+use Rattle.std.specs.Prelude.{◌≡◌, true, List, ℕ, ◌*◌, ◌/◌, ◌%◌, ◌≤◌, get_or, ℤ, pos, Float, Err, Ok, Result}
 use Rattle.std.proofs.Math.Path.{refl, ap}
 use Rattle.std.proofs.Common.{sym, ◌∙◌, arith, eq-eqb}
 use Rattle.std.proofs.Math.Nat.{mul-mod_right, mul-div_right}
@@ -13,8 +13,6 @@ use Rattle.laws.specs.Prefix.{first_bad, bad_le, bad_none}
 use Rattle.wire.specs.Bytes.{twos_of, code_bytes, single_bytes}
 use Rattle.wire.specs.Laws.{length_bytes}
 use Rattle.verdict.specs.declared.Report.{Report}
-use Rattle.verdict.specs.declared.Verdict.{Verdict}
-use Rattle.verdict.specs.declared.Verdict.TheVariants.{Done, Refused}
 use Rattle.verdict.specs.Reports.{done_report}
 use Rattle.verdict.specs.Converts.{taken_of, groups_of, then_of, left_of, Converts}
 use Rattle.verdict.specs.ConvertsLaws.{right_count}
@@ -26,6 +24,7 @@ use Rattle.c_formats.specs.Formats.{width_of, takes_of, pattern_of, outside_of, 
 use Rattle.c_formats.specs.FormatLaws.{wide}
 use Rattle.c_formats.specs.Conversions.{floats, lengths_of, stored_of, ConvertsBytes}
 use Rattle.c_formats.specs.ConversionLaws.{whole_elements, count}
+use Rattle.verdict.specs.declared.Refusal.{Refusal}
 
 -- a list in bytes, z being any element
 abbrev pub in_bytes : {A : Type 0} → (A → List ℕ) → A → List A → List ℕ
@@ -50,23 +49,23 @@ module _ {A : Type 0} (f : Format) (item : Float → A) (bytes : A → List ℕ)
       ∙ ap (λ (n : ℕ). chunks n (λ i. bytes (get_or l i z))) (sym (length_filled k (λ i. item (get_or s i nan)) d h))
 
   -- "Converts" of the floats that the source's bytes are, and "ConvertsBytes" of those bytes
-  pub in_bytes_lem : (g : ℕ) (s : List ℕ) (d l : List A) (v : Verdict) (r : Report) (after : List ℕ) → length s % 8 ≡ 0 → ConvertsBytes f g s (in_bytes bytes z d) r after → Converts g (takes_of f) (outside_of f) item (floats s) d v l → (r ≡ done_report (length s / 8) v) × (after ≡ in_bytes bytes z l)
+  pub in_bytes_lem : (g : ℕ) (s : List ℕ) (d l : List A) (v : Result (Unit {0}) Refusal) (r : Report) (after : List ℕ) → length s % 8 ≡ 0 → ConvertsBytes f g s (in_bytes bytes z d) r after → Converts g (takes_of f) (outside_of f) item (floats s) d v l → (r ≡ done_report (length s / 8) v) × (after ≡ in_bytes bytes z l)
   unfolding stored_of
   in_bytes_lem g s d l v r after h b c =
       let n = length s / 8 in
       let G = groups_of g (length (floats s)) (length d) in
       let e = lengths g (length s) d h ∙ ap (λ (k : ℕ). groups_of g k (length d)) (sym (count s)) in
-      let fits : G ≡ Done → first_bad (takes_of f) (floats s) ≤ length d = λ done. omega (arith, bad_le (takes_of f) (floats s), right_count g (length (floats s)) (length d) done) in (
-        b.answer ∙ ap (λ (c : Verdict). done_report n (then_of c (taken_of (takes_of f) (outside_of f) (floats s)))) e ∙ ap (done_report n) (sym c.answer),
-        b.buffer ∙ ap (λ (c : Verdict). left_of c (stored_of f (floats s) (in_bytes bytes z d)) (in_bytes bytes z d)) e ∙ go G fits ∙ ap (in_bytes bytes z) (sym c.buffer),
+      let fits : G ≡ Ok tt → first_bad (takes_of f) (floats s) ≤ length d = λ done. omega (arith, bad_le (takes_of f) (floats s), right_count g (length (floats s)) (length d) done) in (
+        b.answer ∙ ap (λ (c : Result (Unit {0}) Refusal). done_report n (then_of c (taken_of (takes_of f) (outside_of f) (floats s)))) e ∙ ap (done_report n) (sym c.answer),
+        b.buffer ∙ ap (λ (c : Result (Unit {0}) Refusal). left_of c (stored_of f (floats s) (in_bytes bytes z d)) (in_bytes bytes z d)) e ∙ go G fits ∙ ap (in_bytes bytes z) (sym c.buffer),
       )
     where
-      go : (c : Verdict) → (c ≡ Done → first_bad (takes_of f) (floats s) ≤ length d) → left_of c (stored_of f (floats s) (in_bytes bytes z d)) (in_bytes bytes z d) ≡ in_bytes bytes z (left_of c (filled (first_bad (takes_of f) (floats s)) (λ i. item (get_or (floats s) i nan)) d) d)
-      go Done k = written (first_bad (takes_of f) (floats s)) (floats s) d (k refl)
-      go (Refused why) k = refl
+      go : (c : Result (Unit {0}) Refusal) → (c ≡ Ok tt → first_bad (takes_of f) (floats s) ≤ length d) → left_of c (stored_of f (floats s) (in_bytes bytes z d)) (in_bytes bytes z d) ≡ in_bytes bytes z (left_of c (filled (first_bad (takes_of f) (floats s)) (λ i. item (get_or (floats s) i nan)) d) d)
+      go (Ok tt) k = written (first_bad (takes_of f) (floats s)) (floats s) d (k refl)
+      go (Err why) k = refl
 
 -- ---- each export and its function on lists: the first premise is what the one ensures, the second what the other does
-module _ (s : List ℕ) (h : length s % 8 ≡ 0) {v : Verdict} {r : Report} {after : List ℕ} where
+module _ (s : List ℕ) (h : length s % 8 ≡ 0) {v : Result (Unit {0}) Refusal} {r : Report} {after : List ℕ} where
   module _ (d l : List ℤ) where
     pub to_q15_bytes : ConvertsBytes Format.Q15 1 s (in_bytes code_bytes (pos 0) d) r after → Converts 1 Q15.takes Q15.outside Q15.q15_of (floats s) d v l → (r ≡ done_report (length s / 8) v) × (after ≡ in_bytes code_bytes (pos 0) l)
     unfolding width_of takes_of outside_of pattern_of
@@ -82,10 +81,10 @@ module _ (s : List ℕ) (h : length s % 8 ≡ 0) {v : Verdict} {r : Report} {aft
   to_f32_bytes g d l b c = in_bytes_lem Format.Single single_of single_bytes nan (λ x. length_bytes 4 (to_bits binary32 x)) (λ x. refl) g s d l v r after h b c
 
 -- ---- to f32 no element is refused: the lengths alone tell the answer, and where they are right all is converted
-pub all_singles : {g : ℕ} {s before after : List Float} {r : Verdict} → Converts g (λ x. true) any_outside single_of s before r after → (r ≡ groups_of g (length s) (length before)) × (after ≡ left_of (groups_of g (length s) (length before)) (tabulate (length s) (λ i. single_of (get_or s i nan))) before)
+pub all_singles : {g : ℕ} {s before after : List Float} {r : Result (Unit {0}) Refusal} → Converts g (λ x. true) any_outside single_of s before r after → (r ≡ groups_of g (length s) (length before)) × (after ≡ left_of (groups_of g (length s) (length before)) (tabulate (length s) (λ i. single_of (get_or s i nan))) before)
 unfolding taken_of
 all_singles {g} {s} {before} c = let t = go (groups_of g (length s) (length before)) (right_count g (length s) (length before)) in (c.answer ∙ t.0, c.buffer ∙ t.1)
   where
-    go : (v : Verdict) → (v ≡ Done → length s ≡ length before) → (then_of v (taken_of (λ x. true) any_outside s) ≡ v) × (left_of v (filled (first_bad (λ x. true) s) (λ i. single_of (get_or s i nan)) before) before ≡ left_of v (tabulate (length s) (λ i. single_of (get_or s i nan))) before)
-    go Done h = (rw (bad_none s, eq-eqb (length s) (length s)), rw (bad_none s) (fill_all (length s) _ before (omega (arith, h refl))))
-    go (Refused why) h = (refl, refl)
+    go : (v : Result (Unit {0}) Refusal) → (v ≡ Ok tt → length s ≡ length before) → (then_of v (taken_of (λ x. true) any_outside s) ≡ v) × (left_of v (filled (first_bad (λ x. true) s) (λ i. single_of (get_or s i nan)) before) before ≡ left_of v (tabulate (length s) (λ i. single_of (get_or s i nan))) before)
+    go (Ok tt) h = (rw (bad_none s, eq-eqb (length s) (length s)), rw (bad_none s) (fill_all (length s) _ before (omega (arith, h refl))))
+    go (Err why) h = (refl, refl)

@@ -1,11 +1,9 @@
 -- Records worked out byte by byte, so that what is promised of them is not empty: each kind, a NaN's payload, a beta
 -- that nobody looks at, and what is refused. Assumes nothing.
-use Rattle.std.specs.Prelude.{◌≡◌, refl, List, [], ◌∷◌, ◌++◌, ℕ, replicate}
+use Rattle.std.specs.Prelude.{◌≡◌, refl, List, [], ◌∷◌, ◌++◌, ℕ, replicate, Err, Ok, Result}
 use Rattle.wire.specs.Bytes.{bytes_of, number_of}
 use Rattle.win_shapes.specs.declared.cosines.Cosines.{Cosines}
 use Rattle.verdict.specs.declared.Refusal.TheVariants.{Plain, Length}
-use Rattle.verdict.specs.declared.Verdict.{Verdict}
-use Rattle.verdict.specs.declared.Verdict.TheVariants.{Done, Refused}
 use Rattle.ticket_kinds.specs.Kinds.{field_count, window_taken, ticket_of, formed_of}
 use Rattle.ticket_kinds.specs.declared.TicketWindow.TheVariants.{Hann, Loaded}
 use Rattle.ticket_kinds.specs.declared.Ticket.{Ticket}
@@ -16,6 +14,8 @@ use Rattle.ticket_record.specs.Record.{field_bytes, record_of, write_of}
 use Rattle.c_card.specs.Writing.{written_for, left_for}
 use Rattle.promise_written.specs.Records.{zeroed}
 use Rattle.promise_written.specs.Written.{numbers}
+use Rattle.verdict.specs.declared.Refusal.{Refusal}
+use Rattle.verdict.specs.declared.Reason.TheVariants as Reason
 
 -- ---- what is written
 -- the bytes of a field that is below 256, and of a record with such fields: the length, the kind, and these
@@ -68,14 +68,14 @@ unfolding bytes_of field_bytes
 unused_written = refl
 
 -- ---- what is refused: a kind before a window, a window before a length; the record's length and no other
-abbrev written : ℕ → ℕ → ℕ → Verdict
+abbrev written : ℕ → ℕ → ℕ → Result (Unit {0}) Refusal
 written kind window bytes = written_for (formed_of (numbers kind 1 2 window 4 5)) bytes
 
 orders : written 0 4 46 ∷ written 7 4 0 ∷ written 1 4 45 ∷ written 1 3 45 ∷ written 1 3 47 ∷ written 1 3 46 ∷ []
-    ≡ Refused (Plain 13) ∷ Refused (Plain 13) ∷ Refused (Plain 7) ∷ Refused (Length 46 45) ∷ Refused (Length 46 47) ∷ Done ∷ []
+    ≡ Err (Plain Reason.Kind) ∷ Err (Plain Reason.Kind) ∷ Err (Plain Reason.Code) ∷ Err (Length 46 45) ∷ Err (Length 46 47) ∷ (Ok tt) ∷ []
 unfolding bytes_of field_bytes write_of formed_of field_count window_taken ticket_of
 orders = refl
 
-loaded_first : (c : Cosines) → write_of (Lowpass (record { cutoff = 1; rate = 2; window = Loaded c; count = 5 })) 45 ≡ Refused (Plain 7)
+loaded_first : (c : Cosines) → write_of (Lowpass (record { cutoff = 1; rate = 2; window = Loaded c; count = 5 })) 45 ≡ Err (Plain Reason.Code)
 unfolding write_of
 loaded_first c = refl

@@ -1,13 +1,11 @@
 -- What a caller of `pel_write_ticket` holds afterwards, and what a reader and a writer are to each other. Definitions
 -- only.
-use Rattle.std.specs.Prelude.{ℕ, ◌≡◌, List, ◌++◌, length, take}
+use Rattle.std.specs.Prelude.{ℕ, ◌≡◌, List, ◌++◌, length, take, Err, Ok, Result}
 use Rattle.verdict.specs.declared.Report.{Report}
 use Rattle.ticket_kinds.specs.Kinds.{numbers_of, formed_of}
 use Rattle.ticket_kinds.specs.declared.Ticket.{Ticket}
 use Rattle.ticket_kinds.specs.declared.Ticket.TheVariants.{Lowpass, Spec, Halfband, Gaussian, Rrc, Channelizer}
 use Rattle.ticket_kinds.specs.declared.numbers.Numbers.{Numbers}
-use Rattle.ticket_kinds.specs.declared.numbers.Formed.{Formed}
-use Rattle.ticket_kinds.specs.declared.numbers.Formed.TheVariants.{Known, Refused}
 use Rattle.ticket_card.specs.Card.{read_of}
 use Rattle.ticket_record.specs.Record.{record_of}
 use Rattle.c_card.specs.Cards.{no_ticket, told_of}
@@ -15,12 +13,13 @@ use Rattle.c_card.specs.Writing.{written_for}
 use Rattle.c_card.specs.declared.reading.TicketRead.{TicketRead}
 use Rattle.promise_refusals.specs.Demand.{Numbered}
 use Rattle.promise_written.specs.Records.{HasUnused, UnusedZero, zeroed}
+use Rattle.verdict.specs.declared.Refusal.{Refusal}
 
 -- the numbers of a ticket without what nobody looks at: fields past the kind's, a beta that the window doesn't take;
 -- `WrittenWhole` has that they are taken for this very ticket again
-abbrev pub own_numbers : Formed → Numbers
-own_numbers (Known t) = numbers_of t
-own_numbers (Refused why) = no_ticket
+abbrev pub own_numbers : Result Ticket Refusal → Numbers
+own_numbers (Ok t) = numbers_of t
+own_numbers (Err why) = no_ticket
 
 -- a kind and five fields
 abbrev pub numbers : ℕ → ℕ → ℕ → ℕ → ℕ → ℕ → Numbers
@@ -38,8 +37,8 @@ bytes_taken (Channelizer t) = 46
 -- ---- demand 1: the record of the ticket whole in the buffer, or a number and the buffer as it came
 pub record WrittenWhole (n : Numbers) (r : Report) (after : List ℕ) : Type 0 where
   pub ticket : Ticket
-  pub formed : formed_of n ≡ Known ticket
-  pub again : formed_of (own_numbers (formed_of n)) ≡ Known ticket
+  pub formed : formed_of n ≡ Ok ticket
+  pub again : formed_of (own_numbers (formed_of n)) ≡ Ok ticket
   pub bytes : after ≡ record_of ticket
   pub count : r.count ≡ length after
   pub taken : r.count ≡ bytes_taken ticket

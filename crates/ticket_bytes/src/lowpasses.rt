@@ -25,7 +25,7 @@ pub fn put_lowpass(
 {
     let len = out.len() as u64;
     if len % 8 != 0 {
-        return verdict::refused(Refusal::Length(len - len % 8, len));
+        return Report::from(Refusal::Length(len - len % 8, len));
     }
     let designed = fir_lowpass::lowpass::prepare(cutoff, rate, window, len / 8, &mut *raws);
     write_lowpass(designed, &*raws, &mut *out)
@@ -38,7 +38,7 @@ pub fn put_spec(spec: DesignSpec, rate: f64, cap: u64, raws: &mut [f64], out: &m
 {
     let len = out.len() as u64;
     if len % 8 != 0 {
-        return verdict::refused(Refusal::Length(len - len % 8, len));
+        return Report::from(Refusal::Length(len - len % 8, len));
     }
     let designed = fir_spec::spec_prepare(spec, rate, cap, len / 8, &mut *raws);
     write_lowpass(designed, &*raws, &mut *out)
@@ -58,7 +58,7 @@ pub fn put_prototype(
 {
     let len = out.len() as u64;
     if len % 8 != 0 {
-        return verdict::refused(Refusal::Length(len - len % 8, len));
+        return Report::from(Refusal::Length(len - len % 8, len));
     }
     let designed = fir_channelizer::fitted(
         channels,

@@ -17,7 +17,7 @@ pub fn put_halfband(beta: f64, raws: &mut [f64], out: &mut [u8]) -> Report
 {
     let len = out.len() as u64;
     if len % 8 != 0 {
-        return verdict::refused(Refusal::Length(len - len % 8, len));
+        return Report::from(Refusal::Length(len - len % 8, len));
     }
     let designed = fir_halfband::prepare(beta, len / 8, &mut *raws);
     write_halfband(designed, &*raws, &mut *out)
@@ -29,7 +29,7 @@ pub fn put_gaussian(bt: f64, samples: u64, span: u64, raws: &mut [f64], out: &mu
 {
     let len = out.len() as u64;
     if len % 8 != 0 {
-        return verdict::refused(Refusal::Length(len - len % 8, len));
+        return Report::from(Refusal::Length(len - len % 8, len));
     }
     let designed = fir_gaussian::gaussian_design::fitted(bt, samples, span, len / 8, &mut *raws);
     write_gaussian(designed, &*raws, &mut *out)
@@ -41,7 +41,7 @@ pub fn put_rrc(rolloff: f64, samples: u64, span: u64, out: &mut [u8]) -> Report
 {
     let len = out.len() as u64;
     if len % 8 != 0 {
-        return verdict::refused(Refusal::Length(len - len % 8, len));
+        return Report::from(Refusal::Length(len - len % 8, len));
     }
     let designed = fir_rrc::design::fitted(rolloff, samples, span, len / 8);
     write_rrc(designed, &mut *out)

@@ -6,67 +6,63 @@ ghost use Rattle.fir_lowpass.specs.Lowpass.{outcome_of};
 ghost use Rattle.ticket_taps.specs.Fits.{FitsLowpass};
 ghost use Rattle.ticket_bytes.specs.Sources.{of_halfband, of_gaussian, of_rrc, FitsHalfband, FitsGaussian};
 
-use fir_gaussian::gaussian_design::GaussianDesigned;
-use fir_halfband::HalfbandDesigned;
-use fir_lowpass::lowpass::Designed;
-use fir_rrc::design::RrcDesigned;
 use ticket_taps::{Source, put_taps};
-use verdict::Report;
+use verdict::{Refusal, Report};
 
 // Writes the taps of a low-pass that the buffer fits, and tells their number and their divisor; tells a refusal, and
 // leaves the buffer.
-pub(crate) fn write_lowpass(designed: Designed, raws: &[f64], out: &mut [u8]) -> Report
+pub(crate) fn write_lowpass(designed: Result<Lowpass, Refusal>, raws: &[f64], out: &mut [u8]) -> Report
     requires { FitsLowpass designed raws.now (length out.old) }
     ensures { Writes float_bytes (outcome_of designed) out.old result out.new }
 {
     match designed {
-        Designed::Ready(lp) => {
+        Ok(lp) => {
             put_taps(Source::Lowpass(lp), raws, &mut *out);
-            verdict::accepted(lp.n, lp.sum)
+            Report::accepted(lp.n, lp.sum)
         }
-        Designed::Refused(why) => verdict::refused(why),
+        Err(why) => Report::from(why),
     }
 }
 
 // The same of a half-band.
-pub(crate) fn write_halfband(designed: HalfbandDesigned, raws: &[f64], out: &mut [u8]) -> Report
+pub(crate) fn write_halfband(designed: Result<HalfbandDesign, Refusal>, raws: &[f64], out: &mut [u8]) -> Report
     requires { FitsHalfband designed raws.now (length out.old) }
     ensures { Writes float_bytes (of_halfband designed) out.old result out.new }
 {
     match designed {
-        HalfbandDesigned::Ready(d) => {
+        Ok(d) => {
             put_taps(Source::Halfband(d), raws, &mut *out);
-            verdict::accepted(d.n, d.sum)
+            Report::accepted(d.n, d.sum)
         }
-        HalfbandDesigned::Refused(why) => verdict::refused(why),
+        Err(why) => Report::from(why),
     }
 }
 
 // The same of a Gaussian.
-pub(crate) fn write_gaussian(designed: GaussianDesigned, raws: &[f64], out: &mut [u8]) -> Report
+pub(crate) fn write_gaussian(designed: Result<Gaussian, Refusal>, raws: &[f64], out: &mut [u8]) -> Report
     requires { FitsGaussian designed raws.now (length out.old) }
     ensures { Writes float_bytes (of_gaussian designed) out.old result out.new }
 {
     match designed {
-        GaussianDesigned::Ready(g) => {
+        Ok(g) => {
             put_taps(Source::Gaussian(g), raws, &mut *out);
-            verdict::accepted(g.n, g.sum)
+            Report::accepted(g.n, g.sum)
         }
-        GaussianDesigned::Refused(why) => verdict::refused(why),
+        Err(why) => Report::from(why),
     }
 }
 
 // The same of a root-raised cosine, of which no raw tap is kept.
-pub(crate) fn write_rrc(designed: RrcDesigned, out: &mut [u8]) -> Report
+pub(crate) fn write_rrc(designed: Result<Rrc, Refusal>, out: &mut [u8]) -> Report
     requires { Room (length out.old) (of_rrc designed) }
     ensures { Writes float_bytes (of_rrc designed) out.old result out.new }
 {
     match designed {
-        RrcDesigned::Ready(d) => {
+        Ok(d) => {
             let none = [0.0f64; 0];
             put_taps(Source::Rrc(d), &none, &mut *out);
-            verdict::accepted(d.n, d.norm)
+            Report::accepted(d.n, d.norm)
         }
-        RrcDesigned::Refused(why) => verdict::refused(why),
+        Err(why) => Report::from(why),
     }
 }

@@ -1,8 +1,7 @@
 -- How a loop over a card comes to its answer. Assumes nothing.
-use Rattle.std.specs.Prelude.{◌≡◌, refl, List, [], ◌∷◌, ◌++◌, ℕ, ◌+◌, ◌<◌, ◌≤◌, length, drop}
+use Rattle.std.specs.Prelude.{◌≡◌, refl, List, [], ◌∷◌, ◌++◌, ℕ, ◌+◌, ◌<◌, ◌≤◌, length, drop, Err, Ok, Result}
 use Rattle.std.proofs.Common.{sym, subst, append_assoc, arith, length-append, length-drop, drop-drop}
 use Rattle.verdict.specs.declared.Refusal.{Refusal}
-use Rattle.verdict.specs.declared.Verdict.{Verdict}
 use Rattle.ticket_kinds.specs.declared.Ticket.{Ticket}
 use Rattle.ticket_card.specs.declared.Reading.TheVariants.{Read, Refused}
 use Rattle.ticket_card.specs.declared.card.Checked.{Checked}
@@ -16,7 +15,7 @@ pub record Reached (d : List ℕ) (at n : ℕ) : Type 0 where
   pub count : n ≡ length held
   pub few : n ≤ at
   pub inside : at ≤ length d
-  pub onward : (ts : List Ticket) (p : ℕ) (v : Verdict) → CardReads (drop at d) ts p v → CardReads d (held ++ ts) (at + p) v
+  pub onward : (ts : List Ticket) (p : ℕ) (v : Result (Unit {0}) Refusal) → CardReads (drop at d) ts p v → CardReads d (held ++ ts) (at + p) v
 
 pub at_first : (d : List ℕ) → Reached d 0 0
 at_first d = record {
@@ -51,7 +50,7 @@ module _ {d : List ℕ} {at n : ℕ} (r : Reached d at n) where
       place : (a b c : ℕ) → a + (b + c) ≡ a + b + c
       place a b c = omega arith
 
-  stop : (c : Checked) (v : Verdict) → c.tickets ≡ n → c.place ≡ at → c.ended ≡ v → CardReads (drop at d) [] 0 v → Checks d c
+  stop : (c : Checked) (v : Result (Unit {0}) Refusal) → c.tickets ≡ n → c.place ≡ at → c.ended ≡ v → CardReads (drop at d) [] 0 v → Checks d c
   stop c v tickets place ended h = record {
     held = r.held ++ [];
     tickets = omega (arith, tickets, r.count, length-append r.held []);
@@ -61,8 +60,8 @@ module _ {d : List ℕ} {at n : ℕ} (r : Reached d at n) where
       zero_more : (a : ℕ) → a + 0 ≡ a
       zero_more a = omega arith
 
-  pub broken : {why : Refusal} (c : Checked) → c.tickets ≡ n → c.place ≡ at → c.ended ≡ Verdict.Refused why → at < length d → read_of (drop at d) ≡ Refused why → Checks d c
-  broken {why} c tickets place ended l e = stop c (Verdict.Refused why) tickets place ended (breaks (omega (arith, length-drop at d)) e)
+  pub broken : {why : Refusal} (c : Checked) → c.tickets ≡ n → c.place ≡ at → c.ended ≡ Err why → at < length d → read_of (drop at d) ≡ Refused why → Checks d c
+  broken {why} c tickets place ended l e = stop c (Err why) tickets place ended (breaks (omega (arith, length-drop at d)) e)
 
-  pub whole : (c : Checked) → c.tickets ≡ n → c.place ≡ at → c.ended ≡ Verdict.Done → length d ≤ at → Checks d c
-  whole c tickets place ended l = stop c Verdict.Done tickets place ended (ends (omega (arith, length-drop at d)))
+  pub whole : (c : Checked) → c.tickets ≡ n → c.place ≡ at → c.ended ≡ Ok tt → length d ≤ at → Checks d c
+  whole c tickets place ended l = stop c (Ok tt) tickets place ended (ends (omega (arith, length-drop at d)))

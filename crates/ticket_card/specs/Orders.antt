@@ -1,28 +1,30 @@
 -- The tests of the reader in their order: what each way out rests on. Assumes nothing.
-use Rattle.std.specs.Prelude.{◌≡◌, refl, Bool, true, false, cond, List, ℕ, ◌≤◌, ◌<◌, eqb, length, drop}
+use Rattle.std.specs.Prelude.{◌≡◌, refl, Bool, true, false, cond, List, ℕ, ◌≤◌, ◌<◌, eqb, length, drop, Err, Ok, Result}
 use Rattle.std.proofs.Common.{◌∙◌, lt-ltb, le-ltb, le-leb, eq-eqb, ne_eqb}
 use Rattle.std.proofs.lemmas.Bool.{lt-leb}
 use Rattle.verdict.specs.Numbers.{bad_code, cut_short, unknown_kind, bad_record_length}
 use Rattle.verdict.specs.declared.Refusal.TheVariants.{Plain}
 use Rattle.ticket_kinds.specs.Kinds.{field_count, ticket_of, window_taken, formed}
-use Rattle.ticket_kinds.specs.declared.numbers.Formed.{Formed}
 use Rattle.ticket_card.specs.declared.Reading.{Reading}
 use Rattle.ticket_card.specs.declared.Reading.TheVariants.{Read, Refused}
 use Rattle.ticket_card.specs.Card.{fields_in, following, record_length, length_in, kind_in, refused, read_kind, read_of}
+use Rattle.ticket_kinds.specs.declared.Ticket.{Ticket}
+use Rattle.verdict.specs.declared.Refusal.{Refusal}
+use Rattle.verdict.specs.declared.Reason.TheVariants as Reason
 
 pub too_short : (d : List ℕ) → length d < 6 → refused cut_short ≡ read_of d
 unfolding read_of
 too_short d h = rw (lt-ltb (length d) 6 h)
 
 -- what is read of a record that is there, by the tests of its numbers
-abbrev pub read_as : ℕ → Formed → Reading
-read_as size (Formed.Known t) = Read t size
-read_as size (Formed.Refused why) = Refused why
+abbrev pub read_as : ℕ → Result Ticket Refusal → Reading
+read_as size (Ok t) = Read t size
+read_as size (Err why) = Refused why
 
 last_test : (k size : ℕ) (xs : List ℕ) → eqb (field_count k) 0 ≡ false → read_as size (formed k xs) ≡ cond (window_taken k xs) (Read (ticket_of k xs) size) (refused bad_code)
 last_test k size xs e = rw e (go (window_taken k xs))
   where
-    go : (b : Bool) → read_as size (cond b (Formed.Known (ticket_of k xs)) (Formed.Refused (Plain bad_code))) ≡ cond b (Read (ticket_of k xs) size) (refused bad_code)
+    go : (b : Bool) → read_as size (cond b (Ok (ticket_of k xs)) (Err (Plain Reason.Code))) ≡ cond b (Read (ticket_of k xs) size) (refused bad_code)
     go true = refl
     go false = refl
 

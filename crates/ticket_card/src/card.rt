@@ -3,7 +3,7 @@ ghost use Rattle.ticket_card.specs.Cards.{Checks};
 
 use super::Reading;
 use super::reader::read;
-use verdict::Verdict;
+use verdict::Refusal;
 
 // How many tickets were read, at which byte reading ended, and how: at the end of the card, or at a record that is
 // refused.
@@ -11,7 +11,7 @@ use verdict::Verdict;
 pub struct Checked {
     pub tickets: u64,
     pub place: usize,
-    pub ended: Verdict,
+    pub ended: Result<(), Refusal>,
 }
 
 // Reads a card to its end, or to the first record that is refused. Each record takes 22 bytes at least, so it ends.
@@ -31,7 +31,7 @@ pub fn check(src: &[u8]) -> Checked
                 return Checked {
                     tickets: tickets,
                     place: at,
-                    ended: Verdict::Refused(why),
+                    ended: Err(why),
                 };
             }
         }
@@ -39,6 +39,6 @@ pub fn check(src: &[u8]) -> Checked
     Checked {
         tickets: tickets,
         place: at,
-        ended: Verdict::Done,
+        ended: Ok(()),
     }
 }

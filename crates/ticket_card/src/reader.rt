@@ -3,8 +3,8 @@ ghost use Rattle.std.specs.Prelude.{◌≡◌, drop};
 ghost use Rattle.ticket_card.specs.Card.{read_of, taken_of};
 
 use super::{Reading, fields};
-use ticket_kinds::numbers::{Formed, field_count, ticket_of};
-use verdict::{BAD_RECORD_LENGTH, CUT_SHORT, Refusal, UNKNOWN_KIND};
+use ticket_kinds::numbers::{field_count, ticket_of};
+use verdict::{Reason, Refusal};
 
 // Reads the record that the bytes begin with. Refused, in this order: 12 fewer than six bytes; 13 a kind that isn't 1
 // to 6; 14 a length that isn't the kind's; 12 fewer bytes than the record takes; 7 a window above 3. No other field is
@@ -14,25 +14,25 @@ pub fn read(src: &[u8]) -> Reading
 {
     let len = src.len();
     if len < 6 {
-        return Reading::Refused(Refusal::Plain(CUT_SHORT));
+        return Reading::Refused(Refusal::Plain(Reason::CutShort));
     }
     let kind = fields::kind_in(src);
     let count = field_count(kind);
     if count == 0 {
-        return Reading::Refused(Refusal::Plain(UNKNOWN_KIND));
+        return Reading::Refused(Refusal::Plain(Reason::Kind));
     }
     let told = fields::length_in(src);
     if told != 2 + 8 * count {
-        return Reading::Refused(Refusal::Plain(BAD_RECORD_LENGTH));
+        return Reading::Refused(Refusal::Plain(Reason::RecordLength));
     }
     let size = (6 + 8 * count) as usize;
     if len < size {
-        return Reading::Refused(Refusal::Plain(CUT_SHORT));
+        return Reading::Refused(Refusal::Plain(Reason::CutShort));
     }
     let formed = ticket_of(fields::numbers_in(src, kind, count));
     match formed {
-        Formed::Known(t) => Reading::Read(t, size),
-        Formed::Refused(why) => Reading::Refused(why),
+        Ok(t) => Reading::Read(t, size),
+        Err(why) => Reading::Refused(why),
     }
 }
 

@@ -1,18 +1,16 @@
 -- The windows by their codes. Definitions only.
-use Rattle.std.specs.Prelude.{ℕ, zero, suc, Bool, true, false, Float}
+use Rattle.std.specs.Prelude.{ℕ, zero, suc, Bool, true, false, Float, None, Option, Some}
 use Rattle.laws.specs.Binary64.{whole}
 use Rattle.fir_sinc.specs.declared.window.Window.{Window}
 use Rattle.fir_sinc.specs.declared.window.Window.TheVariants.{Hann, Hamming, Blackman, Kaiser, Cosines}
-use Rattle.ticket_codes.specs.declared.Coded.{Coded}
-use Rattle.ticket_codes.specs.declared.Coded.TheVariants.{Known, Unknown}
 
 -- 0, 1, 2 and 3; only Kaiser's window takes beta
-unfoldable pub window_of : ℕ → Float → Coded
-window_of zero beta = Known Hann
-window_of (suc zero) beta = Known Hamming
-window_of (suc (suc zero)) beta = Known Blackman
-window_of (suc (suc (suc zero))) beta = Known (Kaiser beta)
-window_of (suc (suc (suc (suc code)))) beta = Unknown
+unfoldable pub window_of : ℕ → Float → Option Window
+window_of zero beta = Some Hann
+window_of (suc zero) beta = Some Hamming
+window_of (suc (suc zero)) beta = Some Blackman
+window_of (suc (suc (suc zero))) beta = Some (Kaiser beta)
+window_of (suc (suc (suc (suc code)))) beta = None
 
 -- whether a window has a code: a loaded one has none
 abbrev pub has_code : Window → Bool

@@ -6,23 +6,16 @@ ghost use Rattle.ticket_codes.specs.Codes.{window_of, code_of, shape_of};
 
 use fir_sinc::window::Window;
 
-// A window, or a code that none has.
-#[derive(Clone, Copy)]
-pub enum Coded {
-    Known(Window),
-    Unknown,
-}
-
 // 0 Hann, 1 Hamming, 2 Blackman, 3 Kaiser with this beta, which the others leave out.
-pub fn window_of(code: u64, beta: f64) -> Coded
+pub fn window_of(code: u64, beta: f64) -> Option<Window>
     ensures { result ≡ window_of code beta }
 {
     match code {
-        0 => Coded::Known(Window::Hann),
-        1 => Coded::Known(Window::Hamming),
-        2 => Coded::Known(Window::Blackman),
-        3 => Coded::Known(Window::Kaiser(beta)),
-        _ => Coded::Unknown,
+        0 => Some(Window::Hann),
+        1 => Some(Window::Hamming),
+        2 => Some(Window::Blackman),
+        3 => Some(Window::Kaiser(beta)),
+        _ => None,
     }
 }
 

@@ -1,9 +1,8 @@
 -- What comes of a ticket of any kind, designed into a buffer or judged without one. Definitions only.
-use Rattle.std.specs.Prelude.{ℕ, ◌+◌, ◌*◌, ◌/◌, cond, eqb, Float}
+use Rattle.std.specs.Prelude.{ℕ, ◌+◌, ◌*◌, ◌/◌, cond, eqb, Float, Err, Ok, Result}
 use Rattle.std.specs.Float.{binary64}
 use Rattle.std.specs.Float.Ieee.{of_bits}
 use Rattle.verdict.specs.declared.Refusal.TheVariants as Refusal
-use Rattle.verdict.specs.declared.Length.{Length}
 use Rattle.verdict.specs.Outcome.{Outcome}
 use Rattle.wire.specs.Writes.{whole_taps}
 use Rattle.fir_sinc.specs.declared.window.Window.{Window}
@@ -17,6 +16,7 @@ use Rattle.fir_channelizer.specs.Channelizer as Channelizer
 use Rattle.ticket_kinds.specs.declared.TicketWindow.{TicketWindow}
 use Rattle.ticket_kinds.specs.declared.SpecTicket.{SpecTicket}
 use Rattle.ticket_kinds.specs.declared.Ticket.{Ticket}
+use Rattle.verdict.specs.declared.Refusal.{Refusal}
 
 -- ---- "floats stand as their bits"
 abbrev pub float : ℕ → Float
@@ -50,9 +50,9 @@ abbrev pub ticket_bytes : Ticket → ℕ → Outcome
 ticket_bytes t len = whole_taps len (ticket_outcome t (len / 8))
 
 -- ---- "as designed into a buffer of its own length": a specification without a length has none, and 0 serves
-abbrev pub taps_in : Length → ℕ
-taps_in (Length.Taps n) = n
-taps_in (Length.Refused why) = 0
+abbrev pub taps_in : Result ℕ Refusal → ℕ
+taps_in (Ok n) = n
+taps_in (Err why) = 0
 
 unfoldable pub own_length : Ticket → ℕ
 own_length (Ticket.Lowpass t) = t.count

@@ -1,22 +1,17 @@
 -- A ticket is judged as its kind is without a buffer: a design is the same with a buffer of its own length. Assumes
 -- nothing.
-use Rattle.std.specs.Prelude.{◌≡◌, refl, Bool, true, false, cond, ℕ, ◌+◌, ◌*◌, ◌/◌, Float}
+use Rattle.std.specs.Prelude.{◌≡◌, refl, Bool, true, false, cond, ℕ, ◌+◌, ◌*◌, ◌/◌, Float, Err, Ok, Result}
 use Rattle.std.proofs.Common.{ap, eq-eqb}
 use Rattle.verdict.specs.declared.Refusal.{Refusal}
-use Rattle.verdict.specs.declared.Length.{Length}
-use Rattle.verdict.specs.declared.Verdict.{Verdict}
 use Rattle.verdict.specs.Counted.{Counted}
 use Rattle.fir_length.specs.declared.order.Order.{Order}
 use Rattle.fir_lowpass.specs.Lowpass.{where_passed, lowpass_of, outcome_of}
 use Rattle.fir_lowpass.proofs.LowpassLaws.{lowpass_count}
-use Rattle.fir_lowpass.specs.declared.lowpass.Designed.{Designed}
 use Rattle.fir_spec.specs.Spec.{lowpass_in, design_in, taps_in as length_in, num_taps_of, spec_order_of, spec_lowpass_of, spec_design_of}
 use Rattle.fir_spec.specs.declared.DesignSpec.{DesignSpec}
 use Rattle.fir_gaussian.specs.Gaussian as Gaussian
 use Rattle.fir_gaussian.specs.declared.gaussian_design.Gaussian.{Gaussian}
-use Rattle.fir_gaussian.specs.declared.gaussian_design.GaussianDesigned.TheVariants as GaussianDesigned
 use Rattle.fir_rrc.specs.Rrc as Rrc
-use Rattle.fir_rrc.specs.declared.design.RrcDesigned.{RrcDesigned}
 use Rattle.fir_channelizer.specs.Channelizer as Channelizer
 use Rattle.fir_halfband.specs.Halfband as Halfband
 use Rattle.ticket_kinds.specs.declared.LowpassTicket.{LowpassTicket}
@@ -27,6 +22,7 @@ use Rattle.ticket_kinds.specs.declared.RrcTicket.{RrcTicket}
 use Rattle.ticket_kinds.specs.declared.ChannelizerTicket.{ChannelizerTicket}
 use Rattle.ticket_kinds.specs.declared.Ticket.TheVariants as Ticket
 use Rattle.ticket_design.specs.Design.{float, window_for, spec_for, taps_in, ticket_outcome, own_length, judgement_of}
+use Rattle.fir_lowpass.specs.declared.lowpass.Lowpass.{Lowpass}
 
 -- ---- by its specification
 spec_own : (spec : DesignSpec) (rate : Float) (cap : ℕ) → spec_design_of spec rate cap (taps_in (num_taps_of spec rate cap)) ≡ spec_lowpass_of spec rate cap
@@ -43,7 +39,7 @@ unfolding Gaussian.gaussian_of Gaussian.made_of
 gaussian_own bt samples span = go (Gaussian.bt_taken bt) (Gaussian.span_taken span) (Gaussian.samples_taken samples (16777215 / span)) _ refl _ _ _
   where
     go : (a b c : Bool) (g : Gaussian) → g.n ≡ span * samples + 1 → (x y z : Refusal) →
-        let d = cond a (cond b (cond c (GaussianDesigned.Ready g) (GaussianDesigned.Refused x)) (GaussianDesigned.Refused y)) (GaussianDesigned.Refused z) in
+        let d = cond a (cond b (cond c (Ok g) (Err x)) (Err y)) (Err z) in
         Gaussian.fitted_of d (span * samples + 1) ≡ d
     go true true true g e x y z = rw (eq-eqb g.n (span * samples + 1) e)
     go true true false g e x y z = refl
@@ -55,7 +51,7 @@ unfolding Rrc.rrc_of Rrc.rrc_len_of
 rrc_own rolloff samples span = go (Rrc.rolloff_taken rolloff) (Rrc.sampled samples) (Rrc.spanned span) _ _ _
   where
     go : (a b c : Bool) (x y z : Refusal) →
-        let d = cond a (Rrc.rrc_in rolloff samples (cond b (cond c (Length.Taps (span * samples + 1)) (Length.Refused x)) (Length.Refused y))) (RrcDesigned.Refused z) in
+        let d = cond a (Rrc.rrc_in rolloff samples (cond b (cond c (Ok (span * samples + 1)) (Err x)) (Err y))) (Err z) in
         Rrc.fitted_of d (span * samples + 1) ≡ d
     go true true true x y z = rw (eq-eqb (span * samples + 1) (span * samples + 1) refl)
     go true true false x y z = refl
@@ -63,17 +59,17 @@ rrc_own rolloff samples span = go (Rrc.rolloff_taken rolloff) (Rrc.sampled sampl
     go false b c x y z = refl
 
 -- ---- a channelizer's prototype
-fits : (n : ℕ) (d : Designed) → Counted n (outcome_of d) → Channelizer.fitted_of d n ≡ d
-fits n (Designed.Ready l) e = rw (eq-eqb l.n n e)
-fits n (Designed.Refused why) e = refl
+fits : (n : ℕ) (d : Result Lowpass Refusal) → Counted n (outcome_of d) → Channelizer.fitted_of d n ≡ d
+fits n (Ok l) e = rw (eq-eqb l.n n e)
+fits n (Err why) e = refl
 
 channelizer_own : (m l : ℕ) (passband stopband a : Float) → Channelizer.fitted_of (Channelizer.channelizer_lowpass_of m l passband stopband a) (m * l) ≡ Channelizer.channelizer_lowpass_of m l passband stopband a
 unfolding Channelizer.channelizer_lowpass_of
 channelizer_own m l passband stopband a = fits (m * l) _ (go (Channelizer.channels_taken m) (Channelizer.branch_taken l) (Channelizer.edges_of passband stopband a) _ (lowpass_count _ _ _ (m * l)) _ _)
   where
-    go : (b c : Bool) (v : Verdict) (d : Designed) → Counted (m * l) (outcome_of d) → (x y : Refusal) → Counted (m * l) (outcome_of (cond b (cond c (where_passed v d) (Designed.Refused x)) (Designed.Refused y)))
-    go true true Verdict.Done d h x y = h
-    go true true (Verdict.Refused why) d h x y = tt
+    go : (b c : Bool) (v : Result (Unit {0}) Refusal) (d : Result Lowpass Refusal) → Counted (m * l) (outcome_of d) → (x y : Refusal) → Counted (m * l) (outcome_of (cond b (cond c (where_passed v d) (Err x)) (Err y)))
+    go true true (Ok tt) d h x y = h
+    go true true (Err why) d h x y = tt
     go true false v d h x y = tt
     go false c v d h x y = tt
 

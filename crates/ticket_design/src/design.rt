@@ -26,7 +26,7 @@ fn design_lowpass(l: LowpassTicket, raws: &mut [f64], out: &mut [u8]) -> Report
     let len = out.len() as u64;
     let count = l.count;
     if other_count(count, len) {
-        return verdict::refused(Refusal::Length(count, len / 8));
+        return Report::from(Refusal::Length(count, len / 8));
     }
     let window = l.window;
     let w = window_for(window);
@@ -41,7 +41,7 @@ fn design_halfband(h: HalfbandTicket, raws: &mut [f64], out: &mut [u8]) -> Repor
     let len = out.len() as u64;
     let count = h.count;
     if other_count(count, len) {
-        return verdict::refused(Refusal::Length(count, len / 8));
+        return Report::from(Refusal::Length(count, len / 8));
     }
     let beta = float_of(h.beta);
     put_halfband(beta, &mut *raws, &mut *out)

@@ -8,48 +8,48 @@ ghost use Rattle.fir_rrc.specs.Rrc as RrcOf;
 ghost use Rattle.ticket_design.specs.Design.{judgement_of};
 
 use super::numbers::{spec_for, window_for};
-use fir_gaussian::gaussian_design::{Gaussian, GaussianDesigned};
-use fir_halfband::{HalfbandDesign, HalfbandDesigned};
-use fir_lowpass::lowpass::{Designed, Lowpass};
-use fir_rrc::design::{Rrc, RrcDesigned};
+use fir_gaussian::gaussian_design::Gaussian;
+use fir_halfband::HalfbandDesign;
+use fir_lowpass::lowpass::Lowpass;
+use fir_rrc::design::Rrc;
 use ticket_kinds::Ticket;
-use verdict::Judged;
+use verdict::{Judged, Refusal};
 use wire::float_of;
 
 // What is judged of a design of each kind.
-fn of_lowpass(designed: Designed) -> Judged
+fn of_lowpass(designed: Result<Lowpass, Refusal>) -> Judged
     ensures { result ≡ judged_of (LowpassOf.outcome_of designed) }
 {
     match designed {
-        Designed::Ready(lp) => Judged::Accepted(lp.n, lp.sum),
-        Designed::Refused(why) => Judged::Refused(why),
+        Ok(lp) => Judged::Accepted(lp.n, lp.sum),
+        Err(why) => Judged::Refused(why),
     }
 }
 
-fn of_halfband(designed: HalfbandDesigned) -> Judged
+fn of_halfband(designed: Result<HalfbandDesign, Refusal>) -> Judged
     ensures { result ≡ judged_of (HalfbandOf.outcome_of designed) }
 {
     match designed {
-        HalfbandDesigned::Ready(d) => Judged::Accepted(d.n, d.sum),
-        HalfbandDesigned::Refused(why) => Judged::Refused(why),
+        Ok(d) => Judged::Accepted(d.n, d.sum),
+        Err(why) => Judged::Refused(why),
     }
 }
 
-fn of_gaussian(designed: GaussianDesigned) -> Judged
+fn of_gaussian(designed: Result<Gaussian, Refusal>) -> Judged
     ensures { result ≡ judged_of (GaussianOf.outcome_of designed) }
 {
     match designed {
-        GaussianDesigned::Ready(g) => Judged::Accepted(g.n, g.sum),
-        GaussianDesigned::Refused(why) => Judged::Refused(why),
+        Ok(g) => Judged::Accepted(g.n, g.sum),
+        Err(why) => Judged::Refused(why),
     }
 }
 
-fn of_rrc(designed: RrcDesigned) -> Judged
+fn of_rrc(designed: Result<Rrc, Refusal>) -> Judged
     ensures { result ≡ judged_of (RrcOf.outcome_of designed) }
 {
     match designed {
-        RrcDesigned::Ready(d) => Judged::Accepted(d.n, d.norm),
-        RrcDesigned::Refused(why) => Judged::Refused(why),
+        Ok(d) => Judged::Accepted(d.n, d.norm),
+        Err(why) => Judged::Refused(why),
     }
 }
 

@@ -1,14 +1,13 @@
 -- A ticket as the number of its kind and the numbers of its fields, and the ticket of such numbers. Definitions only.
-use Rattle.std.specs.Prelude.{ℕ, List, [], ◌∷◌, Bool, true, cond, eqb, leb, get_or}
-use Rattle.verdict.specs.Numbers.{bad_code, unknown_kind}
+use Rattle.std.specs.Prelude.{ℕ, List, [], ◌∷◌, Bool, true, cond, eqb, leb, get_or, Err, Ok, Result}
 use Rattle.verdict.specs.declared.Refusal.TheVariants.{Plain}
 use Rattle.ticket_kinds.specs.declared.TicketWindow.{TicketWindow}
 use Rattle.ticket_kinds.specs.declared.TicketWindow.TheVariants.{Hann, Hamming, Blackman, Kaiser, Loaded}
 use Rattle.ticket_kinds.specs.declared.Ticket.{Ticket}
 use Rattle.ticket_kinds.specs.declared.Ticket.TheVariants.{Lowpass, Spec, Halfband, Gaussian, Rrc, Channelizer}
 use Rattle.ticket_kinds.specs.declared.numbers.Numbers.{Numbers}
-use Rattle.ticket_kinds.specs.declared.numbers.Formed.{Formed}
-use Rattle.ticket_kinds.specs.declared.numbers.Formed.TheVariants.{Known, Refused}
+use Rattle.verdict.specs.declared.Refusal.{Refusal}
+use Rattle.verdict.specs.declared.Reason.TheVariants as Reason
 
 -- ---- from a ticket
 -- a window's code; 4, which is no window's, of a loaded one
@@ -89,8 +88,8 @@ ticket_of k xs =
     (Channelizer (record { channels = x 0; branch = x 1; passband = x 2; stopband = x 3; attenuation = x 4 }))))))
 
 -- a ticket, or why there is none: the kind is tested first, the window last
-abbrev pub formed : ℕ → List ℕ → Formed
-formed k xs = cond (eqb (field_count k) 0) (Refused (Plain unknown_kind)) (cond (window_taken k xs) (Known (ticket_of k xs)) (Refused (Plain bad_code)))
+abbrev pub formed : ℕ → List ℕ → Result Ticket Refusal
+formed k xs = cond (eqb (field_count k) 0) (Err (Plain Reason.Kind)) (cond (window_taken k xs) (Ok (ticket_of k xs)) (Err (Plain Reason.Code)))
 
-unfoldable pub formed_of : Numbers → Formed
+unfoldable pub formed_of : Numbers → Result Ticket Refusal
 formed_of n = formed n.kind (n.first ∷ n.second ∷ n.third ∷ n.fourth ∷ n.fifth ∷ [])

@@ -1,16 +1,15 @@
 -- The kinds are six; a ticket's numbers give it back; and how the tests of a kind and a window end. Assumes nothing.
-use Rattle.std.specs.Prelude.{◌≡◌, refl, Bool, true, false, cond, List, ℕ, zero, suc, ◌≤◌, ◌<◌, T, eqb, leb, length}
+use Rattle.std.specs.Prelude.{◌≡◌, refl, Bool, true, false, cond, List, ℕ, zero, suc, ◌≤◌, ◌<◌, T, eqb, leb, length, Err, Ok}
 use Rattle.std.proofs.Common.{true≢false, arith, ne_eqb}
 use Rattle.std.proofs.lemmas.Bool.{eqb-false}
-use Rattle.verdict.specs.Numbers.{bad_code}
 use Rattle.verdict.specs.declared.Refusal.{Refusal}
 use Rattle.verdict.specs.declared.Refusal.TheVariants.{Plain}
 use Rattle.ticket_kinds.specs.declared.TicketWindow.{TicketWindow}
 use Rattle.ticket_kinds.specs.declared.TicketWindow.TheVariants.{Hann, Hamming, Blackman, Kaiser, Loaded}
 use Rattle.ticket_kinds.specs.declared.Ticket.{Ticket}
 use Rattle.ticket_kinds.specs.declared.Ticket.TheVariants.{Lowpass, Spec, Halfband, Gaussian, Rrc, Channelizer}
-use Rattle.ticket_kinds.specs.declared.numbers.Formed.TheVariants.{Known, Refused}
 use Rattle.ticket_kinds.specs.Kinds.{window_of, window_code, window_beta, kind_of, fields_of, numbers_in, numbers_of, field_count, ticket_of, window_taken, has_code, formed, formed_of}
+use Rattle.verdict.specs.declared.Reason.TheVariants as Reason
 
 -- ---- a kind is one of six
 pub no_kind : (k : ℕ) → (k ≡ 1 → ⊥) → (k ≡ 2 → ⊥) → (k ≡ 3 → ⊥) → (k ≡ 4 → ⊥) → (k ≡ 5 → ⊥) → (k ≡ 6 → ⊥) → field_count k ≡ 0
@@ -69,26 +68,26 @@ unfolding formed_of window_taken ticket_of
 formed_numbers k xs = refl
 
 -- what passed them
-never : {why : Refusal} {t : Ticket} → Refused why ≡ Known t → ⊥
+never : {why : Refusal} {t : Ticket} → Err why ≡ Ok t → ⊥
 never e = let z : ◌≡◌ {A = ℕ} 0 1 = cc in omega arith
 
-passed : (a b : Bool) (why other : Refusal) (x t : Ticket) → cond a (Refused why) (cond b (Known x) (Refused other)) ≡ Known t → (a ≡ false) × (b ≡ true) × (x ≡ t)
+passed : (a b : Bool) (why other : Refusal) (x t : Ticket) → cond a (Err why) (cond b (Ok x) (Err other)) ≡ Ok t → (a ≡ false) × (b ≡ true) × (x ≡ t)
 passed true b why other x t e = absurd (never e)
 passed false true why other x t e = (refl, refl, same e)
   where
-    same : {x t : Ticket} → Known x ≡ Known t → x ≡ t
+    same : {x t : Ticket} → Ok x ≡ Ok t → x ≡ t
     same e = cc
 passed false false why other x t e = absurd (never e)
 
-pub formed_passed : (k : ℕ) (xs : List ℕ) (t : Ticket) → formed k xs ≡ Known t → (eqb (field_count k) 0 ≡ false) × (window_taken k xs ≡ true) × (ticket_of k xs ≡ t)
+pub formed_passed : (k : ℕ) (xs : List ℕ) (t : Ticket) → formed k xs ≡ Ok t → (eqb (field_count k) 0 ≡ false) × (window_taken k xs ≡ true) × (ticket_of k xs ≡ t)
 formed_passed k xs t e = passed _ _ _ _ _ t e
 
 -- ---- a ticket whose window has a code comes back from its numbers
-pub formed_back : (t : Ticket) → T (has_code t) → formed_of (numbers_of t) ≡ Known t
+pub formed_back : (t : Ticket) → T (has_code t) → formed_of (numbers_of t) ≡ Ok t
 unfolding formed_of field_count window_taken ticket_of
 formed_back (Lowpass t) h = go t.window h
   where
-    go : (w : TicketWindow) → T (leb (window_code w) 3) → cond (leb (window_code w) 3) (Known (Lowpass (record { cutoff = t.cutoff; rate = t.rate; window = window_of (window_code w) (window_beta w); count = t.count }))) (Refused (Plain bad_code)) ≡ Known (Lowpass (record { cutoff = t.cutoff; rate = t.rate; window = w; count = t.count }))
+    go : (w : TicketWindow) → T (leb (window_code w) 3) → cond (leb (window_code w) 3) (Ok (Lowpass (record { cutoff = t.cutoff; rate = t.rate; window = window_of (window_code w) (window_beta w); count = t.count }))) (Err (Plain Reason.Code)) ≡ Ok (Lowpass (record { cutoff = t.cutoff; rate = t.rate; window = w; count = t.count }))
     go Hann h = refl
     go Hamming h = refl
     go Blackman h = refl

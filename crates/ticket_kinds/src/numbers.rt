@@ -2,11 +2,8 @@
 ghost use Rattle.std.specs.Prelude.{◌≡◌};
 ghost use Rattle.ticket_kinds.specs.Kinds.{field_count, window_of, window_code, window_beta, numbers_of, formed_of};
 
-use super::{
-    ChannelizerTicket, GaussianTicket, HalfbandTicket, LowpassTicket, RrcTicket, SpecTicket,
-    Ticket, TicketWindow,
-};
-use verdict::{BAD_CODE, Refusal, UNKNOWN_KIND};
+use super::{ChannelizerTicket, GaussianTicket, HalfbandTicket, LowpassTicket, RrcTicket, SpecTicket, Ticket, TicketWindow};
+use verdict::{Reason, Refusal};
 
 // The kind, 1 to 6, and the fields in the order of its record; those past the kind's are 0.
 #[repr(C)]
@@ -18,13 +15,6 @@ pub struct Numbers {
     pub third: u64,
     pub fourth: u64,
     pub fifth: u64,
-}
-
-// The ticket of a kind and its fields, or why there is none.
-#[derive(Clone, Copy)]
-pub enum Formed {
-    Known(Ticket),
-    Refused(Refusal),
 }
 
 // How many fields a kind has; 0 where there is no such kind.
@@ -82,52 +72,52 @@ fn beta_of(window: TicketWindow) -> u64
 
 // The ticket of these numbers. Fields past the kind's, and the beta of a window that takes none, aren't looked at.
 // Refused, in this order: 13 a kind that isn't 1 to 6; 7 a window above 3. No other number is judged.
-pub fn ticket_of(n: Numbers) -> Formed
+pub fn ticket_of(n: Numbers) -> Result<Ticket, Refusal>
     ensures { result ≡ formed_of n }
 {
     let kind = n.kind;
     match kind {
         1 => {
             if n.third > 3 {
-                return Formed::Refused(Refusal::Plain(BAD_CODE));
+                return Err(Refusal::Plain(Reason::Code));
             }
             let window = window_of(n.third, n.fourth);
-            Formed::Known(Ticket::Lowpass(LowpassTicket {
+            Ok(Ticket::Lowpass(LowpassTicket {
                 cutoff: n.first,
                 rate: n.second,
                 window: window,
                 count: n.fifth,
             }))
         }
-        2 => Formed::Known(Ticket::Spec(SpecTicket {
+        2 => Ok(Ticket::Spec(SpecTicket {
             cutoff: n.first,
             transition: n.second,
             attenuation: n.third,
             rate: n.fourth,
             cap: n.fifth,
         })),
-        3 => Formed::Known(Ticket::Halfband(HalfbandTicket {
+        3 => Ok(Ticket::Halfband(HalfbandTicket {
             beta: n.first,
             count: n.second,
         })),
-        4 => Formed::Known(Ticket::Gaussian(GaussianTicket {
+        4 => Ok(Ticket::Gaussian(GaussianTicket {
             bt: n.first,
             samples: n.second,
             span: n.third,
         })),
-        5 => Formed::Known(Ticket::Rrc(RrcTicket {
+        5 => Ok(Ticket::Rrc(RrcTicket {
             rolloff: n.first,
             samples: n.second,
             span: n.third,
         })),
-        6 => Formed::Known(Ticket::Channelizer(ChannelizerTicket {
+        6 => Ok(Ticket::Channelizer(ChannelizerTicket {
             channels: n.first,
             branch: n.second,
             passband: n.third,
             stopband: n.fourth,
             attenuation: n.fifth,
         })),
-        _ => Formed::Refused(Refusal::Plain(UNKNOWN_KIND)),
+        _ => Err(Refusal::Plain(Reason::Kind)),
     }
 }
 

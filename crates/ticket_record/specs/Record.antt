@@ -1,14 +1,13 @@
 -- A ticket as a record of a card, and what writing it answers and leaves in the buffer. Definitions only.
-use Rattle.std.specs.Prelude.{ℕ, ◌≡◌, cond, List, [], ◌∷◌, ◌++◌, eqb, length}
+use Rattle.std.specs.Prelude.{ℕ, ◌≡◌, cond, List, [], ◌∷◌, ◌++◌, eqb, length, Err, Ok, Result}
 use Rattle.wire.specs.Bytes.{bytes_of}
-use Rattle.verdict.specs.Numbers.{bad_code}
 use Rattle.verdict.specs.declared.Refusal.TheVariants.{Plain, Length}
-use Rattle.verdict.specs.declared.Verdict.{Verdict}
-use Rattle.verdict.specs.declared.Verdict.TheVariants.{Done, Refused}
 use Rattle.ticket_kinds.specs.Kinds.{kind_of, fields_of, has_code}
 use Rattle.ticket_kinds.specs.declared.Ticket.{Ticket}
 use Rattle.ticket_kinds.specs.declared.numbers.Numbers.{Numbers}
 use Rattle.ticket_card.specs.Card.{following}
+use Rattle.verdict.specs.declared.Refusal.{Refusal}
+use Rattle.verdict.specs.declared.Reason.TheVariants as Reason
 
 -- ---- the bytes
 unfoldable pub field_bytes : List ℕ → List ℕ
@@ -29,17 +28,17 @@ field_list n = n.first ∷ n.second ∷ n.third ∷ n.fourth ∷ n.fifth ∷ []
 
 -- ---- writing
 -- "a loaded window can't be written and gives 7, tested first; a buffer of another length gives 8": for len bytes
-unfoldable pub write_of : Ticket → ℕ → Verdict
+unfoldable pub write_of : Ticket → ℕ → Result (Unit {0}) Refusal
 write_of t len =
     let size = length (record_of t) in
-    cond (has_code t) (cond (eqb len size) Done (Refused (Length size len))) (Refused (Plain bad_code))
+    cond (has_code t) (cond (eqb len size) (Ok tt) (Err (Length size len))) (Err (Plain Reason.Code))
 
 -- "and is untouched": the record where it was written, else the buffer as it came
-abbrev pub left_by : Verdict → Ticket → List ℕ → List ℕ
-left_by Done t d = record_of t
-left_by (Refused why) t d = d
+abbrev pub left_by : Result (Unit {0}) Refusal → Ticket → List ℕ → List ℕ
+left_by (Ok tt) t d = record_of t
+left_by (Err why) t d = d
 
 -- the answer, and the buffer afterwards
-pub record WritesRecord (t : Ticket) (before : List ℕ) (r : Verdict) (after : List ℕ) : Type 0 where
+pub record WritesRecord (t : Ticket) (before : List ℕ) (r : Result (Unit {0}) Refusal) (after : List ℕ) : Type 0 where
   pub answer : r ≡ write_of t (length before)
   pub buffer : after ≡ left_by (write_of t (length before)) t before

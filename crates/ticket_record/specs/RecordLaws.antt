@@ -1,15 +1,13 @@
 -- How long a record is, what the numbers of a ticket tell of its record, and how the writer comes to its answer.
 -- Assumes nothing.
-use Rattle.std.specs.Prelude.{◌≡◌, refl, true, false, List, [], ◌∷◌, ◌++◌, ℕ, ◌*◌, ◌≤◌, ◌<◌, take}
+use Rattle.std.specs.Prelude.{◌≡◌, refl, true, false, List, [], ◌∷◌, ◌++◌, ℕ, ◌*◌, ◌≤◌, ◌<◌, take, Err, Ok}
 use Rattle.std.proofs.Math.Path.{sym, ap}
 use Rattle.std.proofs.Common.{◌∙◌, arith, length-append}
 use borrow.Author.Tests.{eq-eqb, ne_eqb, le-leb, lt-leb}
 use Rattle.std.proofs.Math.ListN.{length}
 use Rattle.wire.specs.Bytes.{bytes_of}
 use Rattle.wire.specs.Laws.{length_bytes}
-use Rattle.verdict.specs.Numbers.{bad_code}
 use Rattle.verdict.specs.declared.Refusal.TheVariants.{Plain, Length}
-use Rattle.verdict.specs.declared.Verdict.TheVariants.{Done, Refused}
 use Rattle.ticket_kinds.specs.Kinds.{window_code, kind_of, fields_of, has_code, numbers_of, field_count}
 use Rattle.ticket_kinds.specs.KindsLaws.{count_is}
 use Rattle.ticket_kinds.specs.declared.Ticket.{Ticket}
@@ -17,6 +15,7 @@ use Rattle.ticket_kinds.specs.declared.Ticket.TheVariants.{Lowpass, Spec, Halfba
 use Rattle.ticket_kinds.specs.declared.numbers.Numbers.{Numbers}
 use Rattle.ticket_card.specs.Card.{following, record_length}
 use Rattle.ticket_record.specs.Record.{field_bytes, record_bytes, record_of, field_list, write_of, WritesRecord}
+use Rattle.verdict.specs.declared.Reason.TheVariants as Reason
 
 -- ---- lengths
 pub length_fields : (xs : List ℕ) → length (field_bytes xs) ≡ 8 * length xs
@@ -96,18 +95,18 @@ module _ (t : Ticket) (n : Numbers) (e : n ≡ numbers_of t) where
       ∙ ap (record_bytes (kind_of t)) (own_fields t)
 
   module _ (d : List ℕ) where
-    pub loaded : has_code t ≡ false → WritesRecord t d (Refused (Plain bad_code)) d
+    pub loaded : has_code t ≡ false → WritesRecord t d (Err (Plain Reason.Code)) d
     unfolding write_of
     loaded c = record { answer = rw c; buffer = rw c }
 
-    pub other_length : has_code t ≡ true → {count : ℕ} → count ≡ field_count n.kind → (length d ≡ record_length count → ⊥) → WritesRecord t d (Refused (Length (record_length count) (length d))) d
+    pub other_length : has_code t ≡ true → {count : ℕ} → count ≡ field_count n.kind → (length d ≡ record_length count → ⊥) → WritesRecord t d (Err (Length (record_length count) (length d))) d
     unfolding write_of
     other_length c {count} k l =
         let s : record_length count ≡ length (record_of t) = ap record_length k ∙ size_is in
         let b = ne_eqb (length d) (length (record_of t)) (λ q. l (q ∙ sym s)) in
         record { answer = rw (c, b, s); buffer = rw (c, b) }
 
-    pub record_whole : has_code t ≡ true → {count : ℕ} → count ≡ field_count n.kind → length d ≡ record_length count → {after : List ℕ} → after ≡ record_bytes n.kind (take count (field_list n)) → WritesRecord t d Done after
+    pub record_whole : has_code t ≡ true → {count : ℕ} → count ≡ field_count n.kind → length d ≡ record_length count → {after : List ℕ} → after ≡ record_bytes n.kind (take count (field_list n)) → WritesRecord t d (Ok tt) after
     unfolding write_of
     record_whole c {count} k l {after} w =
         let s : record_length count ≡ length (record_of t) = ap record_length k ∙ size_is in

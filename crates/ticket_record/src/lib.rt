@@ -7,7 +7,7 @@ ghost use Rattle.ticket_record.specs.Record.{record_bytes, field_list, WritesRec
 
 use ticket_kinds::Ticket;
 use ticket_kinds::numbers::{Numbers, field_count, numbers_of};
-use verdict::{BAD_CODE, Refusal, Verdict};
+use verdict::{Reason, Refusal};
 
 // Stores a record: the length of what follows, the kind, and its first fields, of which it has two, three or five.
 fn put_record(out: &mut [u8], n: Numbers, count: u64)
@@ -32,20 +32,20 @@ fn put_record(out: &mut [u8], n: Numbers, count: u64)
 // Writes the record of a ticket. Refused, in this order, with the buffer as it came: 7 a loaded window, for which a
 // card has no code; 8 a buffer that isn't as long as the record, with both lengths in bytes. Nothing else is judged:
 // what a ticket can hold, a card can.
-pub fn write(t: Ticket, out: &mut [u8]) -> Verdict
+pub fn write(t: Ticket, out: &mut [u8]) -> Result<(), Refusal>
     ensures { WritesRecord t out.old result out.new }
 {
     let n = numbers_of(t);
     let kind = n.kind;
     if kind == 1 && n.third > 3 {
-        return Verdict::Refused(Refusal::Plain(BAD_CODE));
+        return Err(Refusal::Plain(Reason::Code));
     }
     let count = field_count(kind);
     let size = (6 + 8 * count) as usize;
     let len = out.len();
     if len != size {
-        return Verdict::Refused(Refusal::Length(size as u64, len as u64));
+        return Err(Refusal::Length(size as u64, len as u64));
     }
     put_record(&mut *out, n, count);
-    Verdict::Done
+    Ok(())
 }

@@ -3,24 +3,24 @@ ghost use Rattle.std.specs.Prelude.{length};
 ghost use Rattle.fir_gaussian.specs.Gaussian.{gaussian_of, fitted_of, outcome_of};
 ghost use Rattle.verdict.specs.Outcome.{Fills};
 
-use fir_gaussian::gaussian_design::{GaussianDesigned, fitted};
-use verdict::Verdict;
+use fir_gaussian::gaussian_design::fitted;
+use verdict::Refusal;
 
 // Fills the buffer, which must have span sps + 1 elements; refused as `fitted`, with the buffer as it came. Example: bt
 // 0.5, 8 samples and a span of 4 make 33 taps.
-pub fn gaussian(bt: f64, sps: u64, span: u64, taps: &mut [f64]) -> Verdict
+pub fn gaussian(bt: f64, sps: u64, span: u64, taps: &mut [f64]) -> Result<(), Refusal>
     ensures { Fills (outcome_of (fitted_of (gaussian_of bt sps span) (length taps.old))) taps.old result taps.new }
 {
     let n = taps.len();
     let mut none = [0.0f64; 0];
     let designed = fitted(bt, sps, span, n as u64, &mut none);
     match designed {
-        GaussianDesigned::Ready(g) => {
+        Ok(g) => {
             for i in 0..n {
                 taps[i] = g.tap(i as u64);
             }
-            Verdict::Done
+            Ok(())
         }
-        GaussianDesigned::Refused(why) => Verdict::Refused(why),
+        Err(why) => Err(why),
     }
 }

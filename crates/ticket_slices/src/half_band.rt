@@ -3,23 +3,23 @@ ghost use Rattle.std.specs.Prelude.{length};
 ghost use Rattle.verdict.specs.Outcome.{Fills};
 ghost use Rattle.fir_halfband.specs.Halfband.{halfband_taps_of};
 
-use fir_halfband::{HalfbandDesign, HalfbandDesigned};
-use verdict::Verdict;
+use fir_halfband::HalfbandDesign;
+use verdict::Refusal;
 
 // Fills the buffer with the taps of a half-band of as many taps as it has elements; refused as `prepare`, with the
 // buffer as it came. Example: 3 taps with beta 0 are 0.28, 0.44, 0.28, nearly; 5 are refused with 6.
-pub fn halfband_taps(beta: f64, taps: &mut [f64]) -> Verdict
+pub fn halfband_taps(beta: f64, taps: &mut [f64]) -> Result<(), Refusal>
     ensures { Fills (halfband_taps_of beta (length taps.old)) taps.old result taps.new }
 {
     let n = taps.len();
     let designed = HalfbandDesign::new(beta, n as u64);
     match designed {
-        HalfbandDesigned::Ready(d) => {
+        Ok(d) => {
             for k in 0..n {
                 taps[k] = d.tap(k as u64);
             }
-            Verdict::Done
+            Ok(())
         }
-        HalfbandDesigned::Refused(why) => Verdict::Refused(why),
+        Err(why) => Err(why),
     }
 }

@@ -6,7 +6,7 @@ ghost use Rattle.fir_channelizer.specs.Channelizer.{channelizer_lowpass_of, fitt
 
 use super::low_pass::finish;
 use fir_channelizer::fitted;
-use verdict::Verdict;
+use verdict::Refusal;
 
 // Fills the buffer, which must have channels · branch elements; refused as `fitted`, with the buffer as it came.
 // Example: 16 channels of 8 taps, 0.5, 1, 60 dB: 128 taps.
@@ -17,7 +17,7 @@ pub fn channelizer_prototype(
     stopband: f64,
     attenuation: f64,
     taps: &mut [f64],
-) -> Verdict
+) -> Result<(), Refusal>
     ensures { Fills (outcome_of (fitted_of (channelizer_lowpass_of channels branch passband stopband attenuation) (length taps.old))) taps.old result taps.new }
 {
     let mut none = [0.0f64; 1];

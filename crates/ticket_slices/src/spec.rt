@@ -6,10 +6,10 @@ ghost use Rattle.fir_spec.specs.Spec.{spec_design_of};
 
 use super::low_pass::finish;
 use fir_spec::{DesignSpec, spec_prepare};
-use verdict::Verdict;
+use verdict::Refusal;
 
 // Fills the buffer, whose length must be that of `num_taps`; refused as `spec_prepare`, with the buffer as it came.
-pub fn design(spec: DesignSpec, rate: f64, cap: u64, taps: &mut [f64]) -> Verdict
+pub fn design(spec: DesignSpec, rate: f64, cap: u64, taps: &mut [f64]) -> Result<(), Refusal>
     ensures { Fills (outcome_of (spec_design_of spec rate cap (length taps.old))) taps.old result taps.new }
 {
     let mut none = [0.0f64; 1];

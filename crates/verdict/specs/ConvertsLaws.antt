@@ -1,6 +1,6 @@
 -- What the lengths of a conversion do, and how a loop from the front comes to its answer, over elements of any type.
 -- Assumes nothing.
-use Rattle.std.specs.Prelude.{◌≡◌, ℕ, ◌+◌, ◌-◌, ◌%◌, ◌<◌, ◌≤◌, Bool, true, false, cond, List, length, drop, set, ◌==◌, ◌≢◌, slice_index_or, slice_set, refl, Float}
+use Rattle.std.specs.Prelude.{◌≡◌, ℕ, ◌+◌, ◌-◌, ◌%◌, ◌<◌, ◌≤◌, Bool, true, false, cond, List, length, drop, set, ◌==◌, ◌≢◌, slice_index_or, slice_set, refl, Float, Err, Ok, Result}
 use Rattle.std.proofs.Math.Path.{sym}
 use Rattle.std.proofs.Common.{ap, ◌∙◌, arith}
 use borrow.Author.Tests.{eq-eqb, ne_eqb, eqb-true}
@@ -9,32 +9,30 @@ use Rattle.laws.specs.Filled.{filled, fill_none, fill_more, length_filled}
 use Rattle.laws.specs.Prefix.{first_bad, bad_start, bad_more, bad_here, bad_end}
 use Rattle.verdict.specs.declared.Refusal.{Refusal}
 use Rattle.verdict.specs.declared.Refusal.TheVariants.{Length}
-use Rattle.verdict.specs.declared.Verdict.{Verdict}
-use Rattle.verdict.specs.declared.Verdict.TheVariants.{Done, Refused}
 use Rattle.verdict.specs.Converts.{taken_of, groups_of, Converts}
 
 -- a refusal isn't done
-pub only_done : (b : Bool) (c : Verdict) (why : Refusal) → cond b c (Refused why) ≡ Done → (b ≡ true) × (c ≡ Done)
+pub only_done : (b : Bool) (c : Result (Unit {0}) Refusal) (why : Refusal) → cond b c (Err why) ≡ Ok tt → (b ≡ true) × (c ≡ Ok tt)
 only_done true c why e = (refl, e)
 only_done false c why e = (cc, cc)
 
 -- ---- the lengths: each law has the test that passed before its own
 module _ (g n m : ℕ) where
-  pub part_group : (n % g ≢ 0) → groups_of g n m ≡ Refused (Length (n - n % g) n)
+  pub part_group : (n % g ≢ 0) → groups_of g n m ≡ Err (Length (n - n % g) n)
   unfolding groups_of
   part_group a = simp ne_eqb
 
-  pub other_count : n % g ≡ 0 → (n ≢ m) → groups_of g n m ≡ Refused (Length n m)
+  pub other_count : n % g ≡ 0 → (n ≢ m) → groups_of g n m ≡ Err (Length n m)
   unfolding groups_of
   other_count a b = simp (eq-eqb, ne_eqb)
 
-  pub same_count : n % g ≡ 0 → n ≡ m → groups_of g n m ≡ Done
+  pub same_count : n % g ≡ 0 → n ≡ m → groups_of g n m ≡ Ok tt
   unfolding groups_of
   same_count a b = simp eq-eqb
 
-  pub right_count : groups_of g n m ≡ Done → n ≡ m
+  pub right_count : groups_of g n m ≡ Ok tt → n ≡ m
   unfolding groups_of
-  right_count e = eqb-true n m (only_done (n == m) Done _ (only_done (n % g == 0) _ _ e).1).0
+  right_count e = eqb-true n m (only_done (n == m) (Ok tt) _ (only_done (n % g == 0) _ _ e).1).0
 
 -- ---- the elements
 -- the first i are taken
@@ -45,7 +43,7 @@ pub none_yet : (takes : Float → Bool) (s : List Float) → Taken takes s 0
 none_yet takes s = record { so_far = bad_start takes s }
 
 -- where the loop ends: the first that isn't taken, and the answer
-pub record Ended (takes : Float → Bool) (outside : ℕ → Float → Refusal) (s : List Float) (i : ℕ) (r : Verdict) : Type 0 where
+pub record Ended (takes : Float → Bool) (outside : ℕ → Float → Refusal) (s : List Float) (i : ℕ) (r : Result (Unit {0}) Refusal) : Type 0 where
   pub first : first_bad takes s ≡ i
   pub answer : r ≡ taken_of takes outside s
 
@@ -53,13 +51,13 @@ module _ {takes : Float → Bool} {s : List Float} {i : ℕ} (at : Taken takes s
   pub one_taken : i < length s → takes (slice_index_or s i nan) ≡ true → Taken takes s (i + 1)
   one_taken h t = record { so_far = omega (arith, at.so_far, bad_more takes s i nan h t) }
 
-  pub stopped : {outside : ℕ → Float → Refusal} {why : Refusal} → i < length s → takes (slice_index_or s i nan) ≡ false → outside i (slice_index_or s i nan) ≡ why → Ended takes outside s i (Refused why)
+  pub stopped : {outside : ℕ → Float → Refusal} {why : Refusal} → i < length s → takes (slice_index_or s i nan) ≡ false → outside i (slice_index_or s i nan) ≡ why → Ended takes outside s i (Err why)
   unfolding taken_of
   stopped h t e =
       let here : first_bad takes s ≡ i = omega (arith, at.so_far, bad_here takes s i nan h t) in
       record { first = here; answer = sym (rw (here, ne_eqb i (length s) (λ e. omega arith), e)) }
 
-  pub all_taken : {outside : ℕ → Float → Refusal} → i ≡ length s → Ended takes outside s i Done
+  pub all_taken : {outside : ℕ → Float → Refusal} → i ≡ length s → Ended takes outside s i (Ok tt)
   unfolding taken_of
   all_taken h =
       let all : first_bad takes s ≡ i = omega (arith, at.so_far, bad_end takes s i (omega arith)) in
@@ -75,7 +73,7 @@ at_first takes item s before = record { taken = none_yet takes s; front = fill_n
 
 module _ {A : Type 0} {takes : Float → Bool} {item : Float → A} {s : List Float} {before : List A} where
   -- a length is refused
-  pub lengths_refused : {g : ℕ} {outside : ℕ → Float → Refusal} {why : Refusal} → groups_of g (length s) (length before) ≡ Refused why → Converts g takes outside item s before (Refused why) before
+  pub lengths_refused : {g : ℕ} {outside : ℕ → Float → Refusal} {why : Refusal} → groups_of g (length s) (length before) ≡ Err why → Converts g takes outside item s before (Err why) before
   lengths_refused e = record { answer = rw e; buffer = rw e }
 
   module _ {i : ℕ} {after : List A} (at : Reached takes item s before i after) where
@@ -88,5 +86,5 @@ module _ {A : Type 0} {takes : Float → Bool} {item : Float → A} {s : List Fl
       front = e ∙ ap (λ (d : List A). set d i (item (slice_index_or s i nan))) at.front ∙ fill_more i (λ k. item (slice_index_or s k nan)) before l;
     }
 
-    pub ends : {g : ℕ} {outside : ℕ → Float → Refusal} {r : Verdict} → groups_of g (length s) (length before) ≡ Done → Ended takes outside s i r → Converts g takes outside item s before r after
+    pub ends : {g : ℕ} {outside : ℕ → Float → Refusal} {r : Result (Unit {0}) Refusal} → groups_of g (length s) (length before) ≡ Ok tt → Ended takes outside s i r → Converts g takes outside item s before r after
     ends e d = record { answer = d.answer ∙ sym (rw e); buffer = at.front ∙ sym (rw (e, d.first)) }

@@ -3,53 +3,67 @@
 #![tactic(auto)]
 
 ghost use Rattle.std.specs.Prelude.{◌≡◌};
-ghost use Rattle.verdict.specs.Report.{told, report_of, accepted_of};
+ghost use Rattle.verdict.specs.Report.{number_of, report_of, accepted_of};
 ghost use Rattle.verdict.specs.Reports.{length_report, judged_report};
 
-// The refusals' numbers. Caused by the ticket's author: the rate.
-pub const BAD_RATE: u32 = 1;
-// The cutoff, the centre or a band edge.
-pub const BAD_FREQUENCY: u32 = 2;
-// The transition, or a length past 2^24 taps.
-pub const BAD_TRANSITION: u32 = 3;
-// The attenuation or beta.
-pub const BAD_ATTENUATION: u32 = 4;
-// The bandwidth bt, the roll-off, the quality q or the time constant.
-pub const BAD_SHAPE: u32 = 5;
-// A count: taps, order, span, samples, channels or branch.
-pub const BAD_COUNT: u32 = 6;
-// An unknown code, or a response that a Butterworth filter hasn't.
-pub const BAD_CODE: u32 = 7;
-// How many coefficients of a window.
-pub const BAD_COEFFICIENT_COUNT: u32 = 17;
-// A coefficient of a window.
-pub const BAD_COEFFICIENT: u32 = 18;
-// The sum of a window's coefficients.
-pub const BAD_COEFFICIENT_SUM: u32 = 19;
-// Caused by the host program: the buffer's length.
+// Why a ticket is refused, by the number that C knows; the numbers of the other shapes of a refusal are told apart by
+// the shape. Caused by the ticket's author, but for the last four.
+#[derive(Clone, Copy, PartialEq, Eq)]
+pub enum Reason {
+    // The rate.
+    Rate = 1,
+    // The cutoff, the centre or a band edge.
+    Frequency = 2,
+    // The transition, or a length past 2^24 taps.
+    Transition = 3,
+    // The attenuation or beta.
+    Attenuation = 4,
+    // The bandwidth bt, the roll-off, the quality q or the time constant.
+    Shape = 5,
+    // A count: taps, order, span, samples, channels or branch.
+    Count = 6,
+    // An unknown code, or a response that a Butterworth filter hasn't.
+    Code = 7,
+    // How many coefficients of a window.
+    CoefficientCount = 17,
+    // A coefficient of a window.
+    Coefficient = 18,
+    // The sum of a window's coefficients.
+    CoefficientSum = 19,
+    // Caused by arithmetic: the sum that the taps are divided by is 0 or not finite.
+    Divisor = 10,
+    // A Bessel series that hasn't settled.
+    Unsettled = 16,
+    // Caused by the card: the bytes end inside a record.
+    CutShort = 12,
+    // A kind that no ticket has.
+    Kind = 13,
+    // The length of a record, where it isn't its kind's.
+    RecordLength = 14,
+}
+
+// The numbers of the other shapes. Caused by the host program: the buffer's length.
 pub const BAD_LENGTH: u32 = 8;
 // More taps than the cap.
 pub const TOO_MANY_TAPS: u32 = 9;
-// Caused by arithmetic: the sum that the taps are divided by is 0 or not finite.
-pub const BAD_SUM: u32 = 10;
 // An element that Q15 or Q14 can't take.
 pub const BAD_ELEMENT: u32 = 11;
-// A Bessel series that hasn't settled.
-pub const NOT_SETTLED: u32 = 16;
-// Caused by the card: the bytes end inside a record.
-pub const CUT_SHORT: u32 = 12;
-// A kind that no ticket has.
-pub const UNKNOWN_KIND: u32 = 13;
-// The length of a record, where it isn't its kind's.
-pub const BAD_RECORD_LENGTH: u32 = 14;
 
-// Why a ticket is refused: a shape with its number, so that a new number needs no new shape.
+impl From<Reason> for u32 {
+    ghost from_gives = { λ reason number. number ≡ number_of reason };
+
+    fn from(reason: Reason) -> u32 {
+        reason as u32
+    }
+}
+
+// A refusal: a shape with its reason, so that a new number needs no new shape.
 #[derive(Clone, Copy)]
 pub enum Refusal {
     // The number alone.
-    Plain(u32),
-    // A value out of range: number; smallest, largest and offered value.
-    Range(u32, f64, f64, f64),
+    Plain(Reason),
+    // A value out of range: why; smallest, largest and offered value.
+    Range(Reason, f64, f64, f64),
     // 8: a buffer's length, expected and offered.
     Length(u64, u64),
     // 9: more taps than the cap: how many, and the cap.
@@ -58,26 +72,11 @@ pub enum Refusal {
     Element(u64, f64, f64, f64),
 }
 
-// Done, or why not: a buffer filled or as it came, a conversion ended or stopped, a judgement passed or not.
+// What a design is judged to be without its buffer: how many taps, and what they are divided by last.
 #[derive(Clone, Copy)]
-pub enum Verdict {
-    Done,
-    Refused(Refusal),
-}
-
-// How many taps, or why not.
-#[derive(Clone, Copy)]
-pub enum Length {
-    Taps(u64),
-    Refused(Refusal),
-}
-
-// What a design is judged to be without its buffer: how many taps, and what they are divided by last, or why it is
-// none.
-#[derive(Clone, Copy)]
-pub enum Judged {
-    Accepted(u64, f64),
-    Refused(Refusal),
+pub struct Judged {
+    pub taps: u64,
+    pub divisor: f64,
 }
 
 // What an export answers, for acceptance and refusal alike; a field that does not apply is 0.
@@ -101,86 +100,101 @@ pub struct Report {
     pub value: f64,
 }
 
-// A report with no results.
-fn without_results(
-    number: u32,
-    carries: u32,
-    smallest: f64,
-    largest: f64,
-    offered: f64,
-    expected: u64,
-    given: u64,
-    index: u64,
-) -> Report
-    ensures { result ≡ told number carries smallest largest offered expected given index }
-{
-    Report {
-        number: number,
-        carries: carries,
-        smallest: smallest,
-        largest: largest,
-        offered: offered,
-        expected: expected,
-        given: given,
-        index: index,
-        count: 0,
-        value: 0.0,
+// Nothing is told yet.
+const NOTHING: Report = Report {
+    number: 0,
+    carries: 0,
+    smallest: 0.0,
+    largest: 0.0,
+    offered: 0.0,
+    expected: 0,
+    given: 0,
+    index: 0,
+    count: 0,
+    value: 0.0,
+};
+
+impl Report {
+    // What is told of an accepted ticket: its count and its value.
+    pub fn accepted(count: u64, value: f64) -> Report
+        ensures { result ≡ accepted_of count value }
+    {
+        Report {
+            count,
+            value,
+            ..NOTHING
+        }
     }
 }
 
 // What is told of a refusal.
-pub fn refused(why: Refusal) -> Report
-    ensures { result ≡ report_of why }
-{
-    match why {
-        Refusal::Plain(k) => without_results(k, 0, 0.0, 0.0, 0.0, 0, 0, 0),
-        Refusal::Range(k, lo, hi, got) => without_results(k, 1, lo, hi, got, 0, 0, 0),
-        Refusal::Length(expected, given) => without_results(
-            BAD_LENGTH, 2, 0.0, 0.0, 0.0, expected, given, 0,
-        ),
-        Refusal::Cap(n, cap) => {
-            let lo = std::num::nearest_u64_to_f64(n);
-            let got = std::num::nearest_u64_to_f64(cap);
-            without_results(TOO_MANY_TAPS, 3, lo, 16777216.0, got, n, cap, 0)
+impl From<Refusal> for Report {
+    ghost from_gives = { λ why report. report ≡ report_of why };
+
+    fn from(why: Refusal) -> Report {
+        match why {
+            Refusal::Plain(reason) => Report {
+                number: u32::from(reason),
+                ..NOTHING
+            },
+            Refusal::Range(reason, smallest, largest, offered) => Report {
+                number: u32::from(reason),
+                carries: 1,
+                smallest,
+                largest,
+                offered,
+                ..NOTHING
+            },
+            Refusal::Length(expected, given) => Report {
+                number: BAD_LENGTH,
+                carries: 2,
+                expected,
+                given,
+                ..NOTHING
+            },
+            Refusal::Cap(n, cap) => Report {
+                number: TOO_MANY_TAPS,
+                carries: 3,
+                smallest: std::num::nearest_u64_to_f64(n),
+                largest: 16777216.0,
+                offered: std::num::nearest_u64_to_f64(cap),
+                expected: n,
+                given: cap,
+                ..NOTHING
+            },
+            Refusal::Element(index, smallest, largest, offered) => Report {
+                number: BAD_ELEMENT,
+                carries: 4,
+                smallest,
+                largest,
+                offered,
+                index,
+                ..NOTHING
+            },
         }
-        Refusal::Element(i, lo, hi, got) => without_results(BAD_ELEMENT, 4, lo, hi, got, 0, 0, i),
     }
 }
 
-// What is told of an accepted ticket: its count and its value.
-pub fn accepted(count: u64, value: f64) -> Report
-    ensures { result ≡ accepted_of count value }
-{
-    Report {
-        number: 0,
-        carries: 0,
-        smallest: 0.0,
-        largest: 0.0,
-        offered: 0.0,
-        expected: 0,
-        given: 0,
-        index: 0,
-        count: count,
-        value: value,
+// What is told of a number of taps, as the count.
+impl From<Result<u64, Refusal>> for Report {
+    ghost from_gives = { λ length report. report ≡ length_report length };
+
+    fn from(length: Result<u64, Refusal>) -> Report {
+        match length {
+            Ok(n) => Report::accepted(n, 0.0),
+            Err(why) => Report::from(why),
+        }
     }
 }
 
-// What is told of a number of taps, as the count; of a refusal what `refused` tells.
-pub fn told_length(length: Length) -> Report
-    ensures { result ≡ length_report length }
-{
-    match length {
-        Length::Taps(n) => accepted(n, 0.0),
-        Length::Refused(why) => refused(why),
-    }
-}
+// What is told of a judgement: the taps as the count, their divisor as the value.
+impl From<Result<Judged, Refusal>> for Report {
+    ghost from_gives = { λ judged report. report ≡ judged_report judged };
 
-// What is told of a judgement: the taps as the count, their divisor as the value; of a refusal what `refused` tells.
-pub fn told_judged(judged: Judged) -> Report
-    ensures { result ≡ judged_report judged }
-{
-    match judged {
-        Judged::Accepted(n, divisor) => accepted(n, divisor),
-        Judged::Refused(why) => refused(why),
+    fn from(judged: Result<Judged, Refusal>) -> Report {
+        match judged {
+            Ok(j) => Report::accepted(j.taps, j.divisor),
+            Err(why) => Report::from(why),
+        }
     }
 }

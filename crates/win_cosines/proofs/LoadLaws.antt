@@ -1,5 +1,5 @@
 -- What loading comes to, from the five numbers of the window, those not given among them. Assumes nothing.
-use Rattle.std.specs.Prelude.{◌≡◌, ℕ, zero, suc, ◌<◌, ◌≤◌, Bool, true, false, cond, ◌&&◌, List, [], ◌∷◌, length, pos, ◌≢◌, nat_le, slice_index_or, refl, Float}
+use Rattle.std.specs.Prelude.{◌≡◌, ℕ, zero, suc, ◌<◌, ◌≤◌, Bool, true, false, cond, ◌&&◌, List, [], ◌∷◌, length, pos, ◌≢◌, nat_le, slice_index_or, refl, Float, Err, Ok, Result}
 use Rattle.std.proofs.Math.Path.{sym}
 use Rattle.std.proofs.Common.{ap, ◌∙◌, subst, arith}
 use borrow.Author.Tests.{le-leb, lt-leb}
@@ -9,13 +9,11 @@ use Rattle.laws.specs.Binary64.{whole}
 use Rattle.laws.specs.Totals.{units, sum_z}
 use Rattle.laws.specs.Units.{mag}
 use Rattle.math_unity.specs.Unity.{within, all_within, near_one}
-use Rattle.verdict.specs.Numbers.{bad_coefficient_count, bad_coefficient, bad_coefficient_sum}
 use Rattle.verdict.specs.declared.Refusal.{Refusal}
 use Rattle.verdict.specs.declared.Refusal.TheVariants.{Plain, Range}
-use Rattle.verdict.specs.declared.Verdict.{Verdict}
 use Rattle.win_shapes.specs.declared.cosines.Cosines.{Cosines}
-use Rattle.win_cosines.specs.declared.Loading.TheVariants.{Loaded, Refused}
 use Rattle.win_cosines.specs.Load.{five_in, cosines_of, numbers_taken, where_passed, load_of}
+use Rattle.verdict.specs.declared.Reason.TheVariants as Reason
 
 -- a number that is given is read alike whatever one that isn't would be
 pub given : (cs : List Float) (i : ℕ) (a b : Float) → i < length cs → slice_index_or cs i a ≡ slice_index_or cs i b
@@ -57,30 +55,30 @@ unfolding near_one
 padded_near cs l = rw (same_sum cs l) refl
 
 -- numbers that are taken are within 1
-taken_within : (cs : List Float) → numbers_taken cs ≡ Verdict.Done → all_within cs ≡ true
+taken_within : (cs : List Float) → numbers_taken cs ≡ Ok tt → all_within cs ≡ true
 unfolding numbers_taken all_within
 taken_within [] e = refl
 taken_within (x ∷ xs) e = go (within x) (λ h. taken_within xs h) e
   where
-    never_done : (why : Refusal) → Verdict.Refused why ≢ Verdict.Done
+    never_done : (why : Refusal) → Err why ≢ (Ok tt)
     never_done why g = let z : ◌≡◌ {A = ℕ} 0 1 = cc in omega arith
 
-    go : (b : Bool) → (numbers_taken xs ≡ Verdict.Done → all_within xs ≡ true) → cond b (numbers_taken xs) (Verdict.Refused (Range bad_coefficient (neg (whole 1)) (whole 1) x)) ≡ Verdict.Done → (b && all_within xs) ≡ true
+    go : (b : Bool) → (numbers_taken xs ≡ Ok tt → all_within xs ≡ true) → cond b (numbers_taken xs) (Err (Range Reason.Coefficient (neg (whole 1)) (whole 1) x)) ≡ Ok tt → (b && all_within xs) ≡ true
     go true rest e = rest e
     go false rest e = absurd (never_done _ e)
 
 -- ---- each way that loading ends, for a list of n numbers that are those of the window c
 module _ {n : ℕ} {c : Cosines} (cs : List Float) (k : length cs ≡ n) (is : cosines_of cs ≡ c) where
-  pub too_few : n < 1 → Refused (Range bad_coefficient_count (whole 1) (whole 5) (whole n)) ≡ load_of cs
+  pub too_few : n < 1 → Err (Range Reason.CoefficientCount (whole 1) (whole 5) (whole n)) ≡ load_of cs
   unfolding load_of
   too_few h = sym (rw (k, lt-leb 1 n h))
 
-  pub too_many : 5 < n → Refused (Range bad_coefficient_count (whole 1) (whole 5) (whole n)) ≡ load_of cs
+  pub too_many : 5 < n → Err (Range Reason.CoefficientCount (whole 1) (whole 5) (whole n)) ≡ load_of cs
   unfolding load_of
   too_many h = sym (rw (k, le-leb 1 n (omega arith), lt-leb n 5 h))
 
   module _ (low : 1 ≤ n) (high : n ≤ 5) where
-    counted : load_of cs ≡ where_passed (numbers_taken cs) (cond (near_one cs) (Loaded (cosines_of cs)) (Refused (Plain bad_coefficient_sum)))
+    counted : load_of cs ≡ where_passed (numbers_taken cs) (cond (near_one cs) (Ok (cosines_of cs)) (Err (Plain Reason.CoefficientSum)))
     unfolding load_of
     counted = rw (k, le-leb 1 n low, le-leb n 5 high)
 
@@ -93,30 +91,30 @@ module _ {n : ℕ} {c : Cosines} (cs : List Float) (k : length cs ≡ n) (is : c
     near : near_one (five_in c) ≡ near_one cs
     near = subst (λ (z : Cosines). near_one (five_in z) ≡ near_one cs) is (padded_near cs few)
 
-    pub not_taken : (why : Refusal) → Verdict.Refused why ≡ numbers_taken (five_in c) → Refused why ≡ load_of cs
-    not_taken why e = sym (counted ∙ ap (λ (v : Verdict). where_passed v (cond (near_one cs) (Loaded (cosines_of cs)) (Refused (Plain bad_coefficient_sum)))) (sym (e ∙ taken)))
+    pub not_taken : (why : Refusal) → Err why ≡ numbers_taken (five_in c) → Err why ≡ load_of cs
+    not_taken why e = sym (counted ∙ ap (λ (v : Result (Unit {0}) Refusal). where_passed v (cond (near_one cs) (Ok (cosines_of cs)) (Err (Plain Reason.CoefficientSum)))) (sym (e ∙ taken)))
 
-    pub by_sum : (b : Bool) → Verdict.Done ≡ numbers_taken (five_in c) → b ≡ (all_within (five_in c) && near_one (five_in c)) → cond b (Loaded c) (Refused (Plain bad_coefficient_sum)) ≡ load_of cs
+    pub by_sum : (b : Bool) → (Ok tt) ≡ numbers_taken (five_in c) → b ≡ (all_within (five_in c) && near_one (five_in c)) → cond b (Ok c) (Err (Plain Reason.CoefficientSum)) ≡ load_of cs
     by_sum b e g =
         let whole-five : all_within (five_in c) ≡ true = taken_within (five_in c) (sym e) in
         let h : b ≡ near_one cs = g ∙ ap (λ (a : Bool). a && near_one (five_in c)) whole-five ∙ near in
-        ap (λ (a : Bool). cond a (Loaded c) (Refused (Plain bad_coefficient_sum))) h
-        ∙ ap (λ (z : Cosines). cond (near_one cs) (Loaded z) (Refused (Plain bad_coefficient_sum))) (sym is)
-        ∙ sym (counted ∙ ap (λ (v : Verdict). where_passed v (cond (near_one cs) (Loaded (cosines_of cs)) (Refused (Plain bad_coefficient_sum)))) (sym (e ∙ taken)))
+        ap (λ (a : Bool). cond a (Ok c) (Err (Plain Reason.CoefficientSum))) h
+        ∙ ap (λ (z : Cosines). cond (near_one cs) (Ok z) (Err (Plain Reason.CoefficientSum))) (sym is)
+        ∙ sym (counted ∙ ap (λ (v : Result (Unit {0}) Refusal). where_passed v (cond (near_one cs) (Ok (cosines_of cs)) (Err (Plain Reason.CoefficientSum)))) (sym (e ∙ taken)))
 
 -- ---- a window that is loaded has the numbers that were given
-pub never : (why : Refusal) (c : Cosines) → Refused why ≢ Loaded c
+pub never : (why : Refusal) (c : Cosines) → Err why ≢ Ok c
 never why c g = let z : ◌≡◌ {A = ℕ} 0 1 = cc in omega arith
 
-same_window : (c d : Cosines) → Loaded c ≡ Loaded d → c ≡ d
+same_window : (c d : Cosines) → Ok c ≡ Ok d → c ≡ d
 same_window c d e = cc
 
-pub these : (cs : List Float) (c : Cosines) → load_of cs ≡ Loaded c → c ≡ cosines_of cs
+pub these : (cs : List Float) (c : Cosines) → load_of cs ≡ Ok c → c ≡ cosines_of cs
 unfolding load_of
 these cs c e = go (nat_le 1 (length cs) && nat_le (length cs) 5) (numbers_taken cs) (near_one cs) e
   where
-    go : (a : Bool) (v : Verdict) (b : Bool) → cond a (where_passed v (cond b (Loaded (cosines_of cs)) (Refused (Plain bad_coefficient_sum)))) (Refused (Range bad_coefficient_count (whole 1) (whole 5) (whole (length cs)))) ≡ Loaded c → c ≡ cosines_of cs
-    go true Verdict.Done true e = sym (same_window (cosines_of cs) c e)
-    go true Verdict.Done false e = absurd (never _ c e)
-    go true (Verdict.Refused why) b e = absurd (never why c e)
+    go : (a : Bool) (v : Result (Unit {0}) Refusal) (b : Bool) → cond a (where_passed v (cond b (Ok (cosines_of cs)) (Err (Plain Reason.CoefficientSum)))) (Err (Range Reason.CoefficientCount (whole 1) (whole 5) (whole (length cs)))) ≡ Ok c → c ≡ cosines_of cs
+    go true (Ok tt) true e = sym (same_window (cosines_of cs) c e)
+    go true (Ok tt) false e = absurd (never _ c e)
+    go true (Err why) b e = absurd (never why c e)
     go false v b e = absurd (never _ c e)

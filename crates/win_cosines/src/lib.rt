@@ -2,44 +2,35 @@
 // function has a `requires`.
 #![tactic(auto)]
 
-ghost use Rattle.std.specs.Prelude.{◌≡◌, List, length, slice_index_or, Float};
+ghost use Rattle.std.specs.Prelude.{◌≡◌, List, length, slice_index_or, Float, Err};
 ghost use Rattle.std.specs.Float.Ieee.{neg};
 ghost use Rattle.laws.specs.Binary64.{whole};
-ghost use Rattle.verdict.specs.Numbers.{bad_coefficient_count, bad_coefficient};
 ghost use Rattle.verdict.specs.declared.Refusal.TheVariants.{Range};
-ghost use Rattle.verdict.specs.declared.Verdict.TheVariants.{Refused};
-ghost use Rattle.win_cosines.specs.declared.Loading.TheVariants as Loading;
 ghost use Rattle.win_cosines.specs.Load.{cosines_of, numbers_taken, load_of};
 ghost use Rattle.win_cosines.specs.Load.{five_in};
+ghost use Rattle.verdict.specs.declared.Reason.TheVariants as Reason;
 
 use math_unity::{is_within, sums_to_one};
-use verdict::{BAD_COEFFICIENT, BAD_COEFFICIENT_COUNT, BAD_COEFFICIENT_SUM, Refusal, Verdict};
+use verdict::{Reason, Refusal};
 use win_shapes::cosines::Cosines;
 
-// A window to design with, or why not.
-#[derive(Clone, Copy)]
-pub enum Loading {
-    Loaded(Cosines),
-    Refused(Refusal),
-}
-
 // A count that isn't taken.
-fn miscounted(count: u64) -> Loading
-    ensures { result ≡ Loading.Refused (Range bad_coefficient_count (whole 1) (whole 5) (whole count)) }
+fn miscounted(count: u64) -> Result<Cosines, Refusal>
+    ensures { result ≡ Err (Range Reason.CoefficientCount (whole 1) (whole 5) (whole count)) }
 {
     let given = std::num::nearest_u64_to_f64(count);
-    Loading::Refused(Refusal::Range(BAD_COEFFICIENT_COUNT, 1.0, 5.0, given))
+    Err(Refusal::Range(Reason::CoefficientCount, 1.0, 5.0, given))
 }
 
 // A number that isn't taken.
-fn outside(x: f64) -> Verdict
-    ensures { result ≡ Refused (Range bad_coefficient (neg (whole 1)) (whole 1) x) }
+fn outside(x: f64) -> Result<(), Refusal>
+    ensures { result ≡ Err (Range Reason.Coefficient (neg (whole 1)) (whole 1) x) }
 {
-    Verdict::Refused(Refusal::Range(BAD_COEFFICIENT, -1.0, 1.0, x))
+    Err(Refusal::Range(Reason::Coefficient, -1.0, 1.0, x))
 }
 
 // Whether every number of a window is finite and of size 1 at most; those not given, which are 0, are.
-fn judge(c: Cosines) -> Verdict
+fn judge(c: Cosines) -> Result<(), Refusal>
     ensures { result ≡ numbers_taken (five_in c) }
 {
     if !is_within(c.c0) {
@@ -57,13 +48,13 @@ fn judge(c: Cosines) -> Verdict
     if !is_within(c.c4) {
         return outside(c.c4);
     }
-    Verdict::Done
+    Ok(())
 }
 
 // What comes of loading `count` numbers, c being the window of them. Refused, in this order: 17 with 1, 5, count where
 // there aren't 1 to 5; 18 with −1, 1 and the first number that isn't finite or whose size is above 1; 19 an exact sum
 // that is further than 2^-40 from 1.
-pub fn loaded(count: u64, c: Cosines) -> Loading
+pub fn loaded(count: u64, c: Cosines) -> Result<Cosines, Refusal>
     ensures { (cs : List Float) → length cs ≡ count → cosines_of cs ≡ c → result ≡ load_of cs }
 {
     if count < 1 {
@@ -74,14 +65,14 @@ pub fn loaded(count: u64, c: Cosines) -> Loading
     }
     let verdict = judge(c);
     match verdict {
-        Verdict::Done => {
+        Ok(()) => {
             if sums_to_one(c.c0, c.c1, c.c2, c.c3, c.c4) {
-                Loading::Loaded(c)
+                Ok(c)
             } else {
-                Loading::Refused(Refusal::Plain(BAD_COEFFICIENT_SUM))
+                Err(Refusal::Plain(Reason::CoefficientSum))
             }
         }
-        Verdict::Refused(why) => Loading::Refused(why),
+        Err(why) => Err(why),
     }
 }
 
@@ -93,7 +84,7 @@ fn number_at(numbers: &[f64], i: usize) -> f64
 }
 
 // Loads a window of one to five numbers; refused as `loaded`.
-pub fn load(numbers: &[f64]) -> Loading
+pub fn load(numbers: &[f64]) -> Result<Cosines, Refusal>
     ensures { result ≡ load_of numbers.now }
 {
     loaded(

@@ -1,22 +1,22 @@
 -- Windows of n samples, symmetric or periodic, and the buffer that holds one. Definitions only.
 --   the formulas of `win_shapes/Windows` with p = i and d = n, or n − 1 where the window is symmetric; 1 where that is
 --   0
-use Rattle.std.specs.Prelude.{◌≡◌, ℕ, ◌-◌, Bool, true, cond, ◌&&◌, List, length, ◌==◌, Float}
+use Rattle.std.specs.Prelude.{◌≡◌, ℕ, ◌-◌, Bool, true, cond, ◌&&◌, List, length, ◌==◌, Float, Err, Ok, Result}
 use Rattle.std.specs.Float.Ieee.{le}
 use Rattle.std.specs.Float.Ieee.Scale.{finite}
 use Rattle.laws.specs.Binary64.{whole}
 use Rattle.laws.specs.Filled.{tabulate}
 use Rattle.math_bessel.specs.Series.{series_of}
-use Rattle.verdict.specs.Numbers.{bad_attenuation, not_settled}
 use Rattle.verdict.specs.Converts.{left_of}
 use Rattle.verdict.specs.declared.Refusal.TheVariants.{Plain}
 use Rattle.win_shapes.specs.Windows.{angle, hann_at, harris_at, kaiser_at}
 use Rattle.win_settling.specs.Settling.{kaiser_settles}
-use Rattle.verdict.specs.declared.Verdict.{Verdict}
 use Rattle.win_sampled.specs.declared.shape.Shape.{Shape}
 use Rattle.win_sampled.specs.declared.shape.Shape.TheVariants.{Hann, BlackmanHarris, Kaiser}
 use Rattle.win_sampled.specs.declared.shape.Symmetry.{Symmetry}
 use Rattle.win_sampled.specs.declared.shape.Symmetry.TheVariants.{Periodic, Symmetric}
+use Rattle.verdict.specs.declared.Refusal.{Refusal}
+use Rattle.verdict.specs.declared.Reason.TheVariants as Reason
 
 -- beta must be finite and not negative
 unfoldable pub shape_taken : Shape → Bool
@@ -59,16 +59,16 @@ series_settle BlackmanHarris d n = true
 series_settle (Kaiser beta) d n = kaiser_settles beta d n
 
 -- n samples, in this order; 4 comes for none too
-unfoldable pub judgement_of : Shape → Symmetry → ℕ → Verdict
+unfoldable pub judgement_of : Shape → Symmetry → ℕ → Result (Unit {0}) Refusal
 unfolding shape_taken series_settle divisor_of
 judgement_of shape symmetry n =
     cond (shape_taken shape)
     (cond (series_settle shape (divisor_of symmetry n) n)
-    Verdict.Done
-    (Verdict.Refused (Plain not_settled)))
-    (Verdict.Refused (Plain bad_attenuation))
+    (Ok tt)
+    (Err (Plain Reason.Unsettled)))
+    (Err (Plain Reason.Attenuation))
 
 -- what the answer and the buffer are afterwards, each sample through `code`
-pub record FillsWindow {A : Type 0} (code : Float → A) (shape : Shape) (symmetry : Symmetry) (before : List A) (r : Verdict) (after : List A) : Type 0 where
+pub record FillsWindow {A : Type 0} (code : Float → A) (shape : Shape) (symmetry : Symmetry) (before : List A) (r : Result (Unit {0}) Refusal) (after : List A) : Type 0 where
   pub answer : r ≡ judgement_of shape symmetry (length before)
   pub buffer : after ≡ left_of (judgement_of shape symmetry (length before)) (tabulate (length before) (λ i. code (window_at shape symmetry (length before) i))) before

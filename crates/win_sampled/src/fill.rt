@@ -4,44 +4,44 @@ ghost use Rattle.fmt_f32.specs.Single.{single_of};
 ghost use Rattle.win_sampled.specs.Shapes.{FillsWindow};
 
 use super::shape::{Shape, Symmetry, divisor, judge, norm, sample_at};
-use verdict::Verdict;
+use verdict::Refusal;
 
 // Fills the buffer with the window, each sample the nearest f32. Refused, with the buffer as it came: 4 a beta that
 // isn't finite and not negative, also for an empty buffer; 16 a series that hasn't settled. Example: four periodic Hann
 // samples are 0, 0.5, 1, 0.5.
-pub fn fill_f32(shape: Shape, symmetry: Symmetry, out: &mut [f32]) -> Verdict
+pub fn fill_f32(shape: Shape, symmetry: Symmetry, out: &mut [f32]) -> Result<(), Refusal>
     ensures { FillsWindow single_of shape symmetry out.old result out.new }
 {
     let n = out.len();
     let judged = judge(shape, symmetry, n as u64);
     match judged {
-        Verdict::Done => {
+        Ok(()) => {
             let i0 = norm(shape);
             let d = divisor(symmetry, n as u64);
             for i in 0..n {
                 out[i] = fmt_f32::narrow::narrow(sample_at(shape, i0, d, i as u64));
             }
-            Verdict::Done
+            Ok(())
         }
-        Verdict::Refused(why) => Verdict::Refused(why),
+        Err(why) => Err(why),
     }
 }
 
 // The same as Q15 numbers: 1 is held to 32767.
-pub fn fill_q15(shape: Shape, symmetry: Symmetry, out: &mut [i16]) -> Verdict
+pub fn fill_q15(shape: Shape, symmetry: Symmetry, out: &mut [i16]) -> Result<(), Refusal>
     ensures { FillsWindow q15_of shape symmetry out.old result out.new }
 {
     let n = out.len();
     let judged = judge(shape, symmetry, n as u64);
     match judged {
-        Verdict::Done => {
+        Ok(()) => {
             let i0 = norm(shape);
             let d = divisor(symmetry, n as u64);
             for i in 0..n {
                 out[i] = fmt_q15::q15::q15_from_f64(sample_at(shape, i0, d, i as u64));
             }
-            Verdict::Done
+            Ok(())
         }
-        Verdict::Refused(why) => Verdict::Refused(why),
+        Err(why) => Err(why),
     }
 }

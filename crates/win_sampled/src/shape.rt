@@ -5,7 +5,7 @@ ghost use Rattle.win_sampled.specs.Shapes.{shape_taken, norm_of, divisor_of, sam
 ghost use Rattle.win_sampled.specs.SampleLaws.{curve_of, place_at, value_of, value_at};
 
 use math_bessel::Pair;
-use verdict::{BAD_ATTENUATION, NOT_SETTLED, Refusal, Verdict};
+use verdict::{Reason, Refusal};
 use win_shapes::curve::Curve;
 use win_shapes::{cosines, curve, kaiser};
 
@@ -76,16 +76,16 @@ fn series_settle(shape: Shape, divisor: u64, n: u64) -> bool
 
 // A window of n samples. Refused, in this order: 4 a beta that isn't finite and not negative, also for no samples; 16 a
 // series at beta or at a sample that hasn't settled, where the divisor isn't 0.
-pub fn judge(shape: Shape, symmetry: Symmetry, n: u64) -> Verdict
+pub fn judge(shape: Shape, symmetry: Symmetry, n: u64) -> Result<(), Refusal>
     ensures { result ≡ judgement_of shape symmetry n }
 {
     if !takes_shape(shape) {
-        return Verdict::Refused(Refusal::Plain(BAD_ATTENUATION));
+        return Err(Refusal::Plain(Reason::Attenuation));
     }
     if !series_settle(shape, divisor(symmetry, n), n) {
-        return Verdict::Refused(Refusal::Plain(NOT_SETTLED));
+        return Err(Refusal::Plain(Reason::Unsettled));
     }
-    Verdict::Done
+    Ok(())
 }
 
 // A sample takes three steps, for a loop that works out the arguments of the next samples before the values of these.

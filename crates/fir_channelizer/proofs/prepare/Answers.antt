@@ -1,4 +1,5 @@
 -- `fir_channelizer::prepare` meets its contract: what each test says, and then an answer at a time. Assumes nothing.
+use Rattle.std.specs.Prelude.{Err, Ok, Result}
 use Rattle.std.proofs.Common.{◌≡◌, ◌*◌, true, sym, ap, ◌∙◌, arith}
 use lib.Ieee.{Float, of_bits, of_int}
 use Rattle.laws.specs.Binary64.{◌⊕◌, ◌⊗◌, ◌⊘◌, whole}
@@ -7,9 +8,8 @@ use Rattle.fir_lowpass.proofs.LowpassLaws.{prepares_as, prepares_refusal}
 use Rattle.fir_sinc.specs.declared.window.Window.TheVariants.{Kaiser}
 use Rattle.fir_channelizer.specs.Channelizer.{channels_taken, branch_taken, edges_of, channelizer_lowpass_of}
 use Rattle.fir_channelizer.specs.ChannelizerLaws.{prototype_of, product_most, by_edges, no_branch, no_channels}
-use Rattle.verdict.specs.declared.Verdict.{Verdict}
-use Rattle.verdict.specs.declared.Verdict.TheVariants.{Done, Refused}
 use Rattle.fir_channelizer.proofs.prepare.Goals as goal
+use Rattle.verdict.specs.declared.Refusal.{Refusal}
 
 pub returns-then-not-takes_channels : goal.returns-then-not-takes_channels
 returns-then-not-takes_channels c =
@@ -30,27 +30,27 @@ overflow_mul-channels c =
     let h = product_most a.channels a.branch past1 past2 in
     omega arith
 
-pub returns-in-Done : goal.returns-in-Done
+pub returns-in-Ok : goal.returns-in-Ok
 unfolding of_int of_bits
-returns-in-Done c =
-    let answer : (k : Verdict) → edges_of c.args.passband c.args.stopband c.args.attenuation ≡ k → channelizer_lowpass_of c.args.channels c.args.branch c.args.passband c.args.stopband c.args.attenuation ≡ where_passed k (prototype_of c.args.channels c.args.branch c.args.passband c.args.stopband c.args.attenuation) = let past1 : channels_taken c.args.channels ≡ true = sym c.takes_channels.ensures ∙ c.if-not-takes_channels.false in
+returns-in-Ok c =
+    let answer : (k : Result (Unit {0}) Refusal) → edges_of c.args.passband c.args.stopband c.args.attenuation ≡ k → channelizer_lowpass_of c.args.channels c.args.branch c.args.passband c.args.stopband c.args.attenuation ≡ where_passed k (prototype_of c.args.channels c.args.branch c.args.passband c.args.stopband c.args.attenuation) = let past1 : channels_taken c.args.channels ≡ true = sym c.takes_channels.ensures ∙ c.if-not-takes_channels.false in
     let past2 : branch_taken c.args.branch ≡ true = sym c.takes_branch.ensures ∙ c.if-not-takes_branch.false in
     λ k e. let a = c.args in
     by_edges a.channels a.branch a.passband a.stopband a.attenuation past1 past2
-    ∙ ap (λ (z : Verdict). where_passed z (prototype_of a.channels a.branch a.passband a.stopband a.attenuation)) e in
+    ∙ ap (λ (z : Result (Unit {0}) Refusal). where_passed z (prototype_of a.channels a.branch a.passband a.stopband a.attenuation)) e in
     let a = c.args in
     let n = a.channels * a.branch in
     prepares_as
     (ap (λ (z : Float). lowpass_of ((a.passband ⊕ a.stopband) ⊘ (whole 2 ⊗ z)) (whole 1) (Kaiser c.kaiser_beta-beta.result) n) c.nearest_u64_to_f64.ensures
     ∙ ap (λ (z : Float). lowpass_of ((a.passband ⊕ a.stopband) ⊘ (whole 2 ⊗ whole a.channels)) (whole 1) (Kaiser z) n) c.kaiser_beta-beta.ensures
-    ∙ sym (answer Done (sym c.check_edges-checked.ensures ∙ c.in-Done.is)))
+    ∙ sym (answer (Ok tt) (sym c.check_edges-checked.ensures ∙ c.in-Ok.is)))
     c.prepare.ensures
 
-pub returns-in-Refused : goal.returns-in-Refused
-returns-in-Refused c =
-    let answer : (k : Verdict) → edges_of c.args.passband c.args.stopband c.args.attenuation ≡ k → channelizer_lowpass_of c.args.channels c.args.branch c.args.passband c.args.stopband c.args.attenuation ≡ where_passed k (prototype_of c.args.channels c.args.branch c.args.passband c.args.stopband c.args.attenuation) = let past1 : channels_taken c.args.channels ≡ true = sym c.takes_channels.ensures ∙ c.if-not-takes_channels.false in
+pub returns-in-Err : goal.returns-in-Err
+returns-in-Err c =
+    let answer : (k : Result (Unit {0}) Refusal) → edges_of c.args.passband c.args.stopband c.args.attenuation ≡ k → channelizer_lowpass_of c.args.channels c.args.branch c.args.passband c.args.stopband c.args.attenuation ≡ where_passed k (prototype_of c.args.channels c.args.branch c.args.passband c.args.stopband c.args.attenuation) = let past1 : channels_taken c.args.channels ≡ true = sym c.takes_channels.ensures ∙ c.if-not-takes_channels.false in
     let past2 : branch_taken c.args.branch ≡ true = sym c.takes_branch.ensures ∙ c.if-not-takes_branch.false in
     λ k e. let a = c.args in
     by_edges a.channels a.branch a.passband a.stopband a.attenuation past1 past2
-    ∙ ap (λ (z : Verdict). where_passed z (prototype_of a.channels a.branch a.passband a.stopband a.attenuation)) e in
-    prepares_refusal _ _ _ (answer (Refused c.in-Refused.why) (sym c.check_edges-checked.ensures ∙ c.in-Refused.is))
+    ∙ ap (λ (z : Result (Unit {0}) Refusal). where_passed z (prototype_of a.channels a.branch a.passband a.stopband a.attenuation)) e in
+    prepares_refusal _ _ _ (answer (Err c.in-Err.why) (sym c.check_edges-checked.ensures ∙ c.in-Err.is))

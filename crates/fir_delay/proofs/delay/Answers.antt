@@ -1,15 +1,15 @@
 -- `fir_delay::delay` meets its contract. Assumes nothing.
+use Rattle.std.specs.Prelude.{Ok}
 use mathlib.Core.Path.{◌≡◌, refl, sym, ap}
 use Prim.Native.Nat.{ℕ, zero, suc, ◌-◌}
 use native.Mathlib.Omega.{arith}
 use Rattle.fir_delay.specs.Delay.{delay_of}
-use Rattle.fir_delay.specs.declared.Delayed.TheVariants.{HalfSamples}
 use Rattle.fir_delay.proofs.delay.Goals as goal
 
-some : (n : ℕ) → (n ≡ 0 → ⊥) → HalfSamples (n - 1) ≡ delay_of n
+some : (n : ℕ) → (n ≡ 0 → ⊥) → Ok (n - 1) ≡ delay_of n
 unfolding delay_of
 some zero h = absurd (h refl)
-some (suc n) h = ap HalfSamples (go n)
+some (suc n) h = ap Ok (go n)
   where
     go : (n : ℕ) → suc n - 1 ≡ n
     go n = omega arith

@@ -18,28 +18,28 @@ unfolding of_int of_bits round divisor_of
 returns-then-not-is_usable c =
     let past : length_taken c.args.n ≡ true = sym c.takes_length.ensures ∙ c.if-not-takes_length.false in
     let quarter : quarter_of c.args.beta c.args.n ≡ c.prepare-designed.result = sym c.prepare-designed.ensures.is in
-    let lowpass : Lowpass = c.in-Ready.lp in
-    let divided : c.total-sum.result ≡ divisor_of lowpass c.args.n = c.total-sum.ensures (c.prepare-designed.ensures.raws lowpass c.in-Ready.is) in
+    let lowpass : Lowpass = c.in-Ok.lp in
+    let divided : c.total-sum.result ≡ divisor_of lowpass c.args.n = c.total-sum.ensures (c.prepare-designed.ensures.raws lowpass c.in-Ok.is) in
     let a = c.args in
     refuses a.beta a.n _ _
-    (no_divisor a.beta a.n past lowpass (quarter ∙ c.in-Ready.is) (ap usable (sym divided) ∙ sym c.is_usable.ensures ∙ c.if-not-is_usable.true))
+    (no_divisor a.beta a.n past lowpass (quarter ∙ c.in-Ok.is) (ap usable (sym divided) ∙ sym c.is_usable.ensures ∙ c.if-not-is_usable.true))
 
 pub returns-else-not-is_usable : goal.returns-else-not-is_usable
 unfolding of_int of_bits round divisor_of
 returns-else-not-is_usable c =
     let past : length_taken c.args.n ≡ true = sym c.takes_length.ensures ∙ c.if-not-takes_length.false in
     let quarter : quarter_of c.args.beta c.args.n ≡ c.prepare-designed.result = sym c.prepare-designed.ensures.is in
-    let lowpass : Lowpass = c.in-Ready.lp in
-    let divided : c.total-sum.result ≡ divisor_of lowpass c.args.n = c.total-sum.ensures (c.prepare-designed.ensures.raws lowpass c.in-Ready.is) in
+    let lowpass : Lowpass = c.in-Ok.lp in
+    let divided : c.total-sum.result ≡ divisor_of lowpass c.args.n = c.total-sum.ensures (c.prepare-designed.ensures.raws lowpass c.in-Ok.is) in
     let a = c.args in
-    let e = c.in-Ready.is in
+    let e = c.in-Ok.is in
     accepts a.beta a.n lowpass c.total-sum.result _ divided (c.prepare-designed.ensures.raws lowpass e)
     (ready a.beta a.n past lowpass (quarter ∙ e) (ap usable (sym divided) ∙ sym c.is_usable.ensures ∙ c.if-not-is_usable.false))
 
-pub returns-in-Refused : goal.returns-in-Refused
+pub returns-in-Err : goal.returns-in-Err
 unfolding of_int of_bits round
-returns-in-Refused c =
+returns-in-Err c =
     let past : length_taken c.args.n ≡ true = sym c.takes_length.ensures ∙ c.if-not-takes_length.false in
     let quarter : quarter_of c.args.beta c.args.n ≡ c.prepare-designed.result = sym c.prepare-designed.ensures.is in
     let a = c.args in
-    refuses a.beta a.n c.in-Refused.why _ (no_lowpass a.beta a.n past c.in-Refused.why (quarter ∙ c.in-Refused.is))
+    refuses a.beta a.n c.in-Err.why _ (no_lowpass a.beta a.n past c.in-Err.why (quarter ∙ c.in-Err.is))

@@ -10,16 +10,16 @@ pub returns-then-n-len : goal.returns-then-n-len
 unfolding spec_design_of
 returns-then-n-len c =
     let a = c.args in
-    prepares_as (sym (ap (design_in a.spec a.rate a.len) (sym c.spec_order-order.ensures ∙ c.in-Taps.is) ∙ rw (eq-eqb c.in-Taps.n a.len c.if-n-len.true))) c.prepare.ensures
+    prepares_as (sym (ap (design_in a.spec a.rate a.len) (sym c.spec_order-order.ensures ∙ c.in-Ok.is) ∙ rw (eq-eqb c.in-Ok.n a.len c.if-n-len.true))) c.prepare.ensures
 
 pub returns-else-n-len : goal.returns-else-n-len
 unfolding spec_design_of of_int of_bits
 returns-else-n-len c =
     let a = c.args in
-    prepares_refusal _ _ _ (ap (design_in a.spec a.rate a.len) (sym c.spec_order-order.ensures ∙ c.in-Taps.is) ∙ rw (ne_eqb c.in-Taps.n a.len c.if-n-len.false))
+    prepares_refusal _ _ _ (ap (design_in a.spec a.rate a.len) (sym c.spec_order-order.ensures ∙ c.in-Ok.is) ∙ rw (ne_eqb c.in-Ok.n a.len c.if-n-len.false))
 
-pub returns-in-Refused : goal.returns-in-Refused
+pub returns-in-Err : goal.returns-in-Err
 unfolding spec_design_of of_int of_bits
-returns-in-Refused c =
+returns-in-Err c =
     let a = c.args in
-    prepares_refusal _ _ _ (ap (design_in a.spec a.rate a.len) (sym c.spec_order-order.ensures ∙ c.in-Refused.is))
+    prepares_refusal _ _ _ (ap (design_in a.spec a.rate a.len) (sym c.spec_order-order.ensures ∙ c.in-Err.is))

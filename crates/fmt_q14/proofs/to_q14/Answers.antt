@@ -30,23 +30,23 @@ offset_bounds-dst-i c = record { fits = omega (arith, c.well_formed.1.0.1) }
 pub bounds-dst-i : goal.bounds-dst-i
 bounds-dst-i c = omega (arith, same_size c.loop-i.invariant.1 (omega arith))
 
-pub shape_of-dst-in-Refused : goal.shape_of-dst-in-Refused
-shape_of-dst-in-Refused c = same_size c.loop-i.invariant.1 (omega arith)
+pub shape_of-dst-in-Err : goal.shape_of-dst-in-Err
+shape_of-dst-in-Err c = same_size c.loop-i.invariant.1 (omega arith)
 
-pub returns-in-Refused : goal.returns-in-Refused
-returns-in-Refused c =
+pub returns-in-Err : goal.returns-in-Err
+returns-in-Err c =
     let s = c.args.src.now in
     let i = c.loop-i.i in
-    let t = q14_refused i (get_or s i nan) c.in-Refused.why (sym c.q14_from_f64-coded.ensures ∙ c.in-Refused.is) in
+    let t = q14_refused i (get_or s i nan) c.in-Err.why (sym c.q14_from_f64-coded.ensures ∙ c.in-Err.is) in
     ends c.loop-i.invariant.1 (same_count 5 _ _ c.if-n-ne0.false (omega arith)) (stopped c.loop-i.invariant.1.taken (omega arith) t.0 t.1)
 
 pub loop-i-preserved : goal.loop-i-preserved
 loop-i-preserved c =
     let s = c.args.src.now in
     let i = c.loop-i.i in
-    let q = c.in-Number.q in
-    let t = q14_number i (get_or s i nan) q (sym c.q14_from_f64-coded.ensures ∙ c.in-Number.is) in
-    let stored = to_z-of_z w16 q (record { sfits = c.in-Number.known_told-1-own.given.0.1 }) in
+    let q = c.in-Ok.q in
+    let t = q14_number i (get_or s i nan) q (sym c.q14_from_f64-coded.ensures ∙ c.in-Ok.is) in
+    let stored = to_z-of_z w16 q (record { sfits = c.in-Ok.known_told-1-own.given.0.1 }) in
     (omega arith, one_more c.loop-i.invariant.1 (omega arith) (omega arith) t.0 (ap (λ (z : ℤ). set c.loop-i.dst i z) (stored ∙ sym t.1)))
 
 pub shape_of-dst : goal.shape_of-dst

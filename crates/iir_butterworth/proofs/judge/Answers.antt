@@ -1,4 +1,5 @@
 -- `iir_butterworth::judge` meets its contract: what each test says, and then an answer at a time. Assumes nothing.
+use Rattle.std.specs.Prelude.{Err}
 use mathlib.Core.Path.{◌≡◌, sym, ap, ◌∙◌}
 use mathlib.Core.Bool.{true}
 use Prim.Native.Nat.{ℕ, ◌*◌}
@@ -6,7 +7,6 @@ use native.Mathlib.Omega.{arith}
 use borrow.Author.Tests.{eq-eqb, ne_eqb}
 use lib.Ieee.{of_bits, of_int}
 use Rattle.verdict.specs.Outcome.{answered}
-use Rattle.verdict.specs.declared.Verdict.TheVariants as Verdict
 use Rattle.verdict.specs.declared.Refusal.TheVariants.{Length}
 use Rattle.iir_butterworth.specs.Butterworth.{response_taken, order_taken, sections_of}
 use Rattle.iir_butterworth.specs.SectionLaws.{order_is, no_response, no_order, no_length, no_centre, made}
@@ -40,7 +40,7 @@ returns-then-len-expected c =
     let past2 : order_taken c.args.order ≡ true = sym c.takes_order.ensures ∙ c.if-not-takes_order.false in
     let expected : c.sections-expected.result * 5 ≡ sections_of c.args.order * 5 = ap (λ (n : ℕ). n * 5) c.sections-expected.ensures in
     let a = c.args in
-    ap (λ (n : ℕ). Verdict.Refused (Length n a.len)) expected
+    ap (λ (n : ℕ). Err (Length n a.len)) expected
     ∙ sym (ap answered (no_length a.response a.order a.cutoff a.rate a.len past1 past2 (ne_eqb a.len (sections_of a.order * 5) (λ e. c.if-len-expected.true (e ∙ sym expected)))))
 
 pub returns-then-not-takes_centre : goal.returns-then-not-takes_centre

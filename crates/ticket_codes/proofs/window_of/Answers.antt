@@ -1,13 +1,13 @@
 -- `ticket_codes::window_of` meets its contract, a code at a time. Assumes nothing.
+use Rattle.std.specs.Prelude.{None}
 use mathlib.Core.Path.{◌≡◌, refl}
 use Prim.Native.Nat.{ℕ, zero, suc, ◌<◌}
 use native.Mathlib.Omega.{arith}
 use lib.Ieee.{Float}
 use Rattle.ticket_codes.specs.Codes.{window_of}
-use Rattle.ticket_codes.specs.declared.Coded.TheVariants.{Unknown}
 use Rattle.ticket_codes.proofs.window_of.Goals as goal
 
-other : (code : ℕ) (beta : Float) → 3 < code → Unknown ≡ window_of code beta
+other : (code : ℕ) (beta : Float) → 3 < code → None ≡ window_of code beta
 unfolding window_of
 other zero beta h = absurd (omega arith)
 other (suc zero) beta h = absurd (omega arith)

@@ -1,10 +1,10 @@
 -- `win_cosines::loaded` meets its contract. Assumes nothing.
+use Rattle.std.specs.Prelude.{Err, Ok}
 use Rattle.std.proofs.Common.{Bool, cond, sym, ap, ◌∙◌, arith}
-use Rattle.verdict.specs.Numbers.{bad_coefficient_sum}
 use Rattle.verdict.specs.declared.Refusal.TheVariants.{Plain}
-use Rattle.win_cosines.specs.declared.Loading.TheVariants.{Loaded, Refused}
 use Rattle.win_cosines.proofs.LoadLaws.{too_few, too_many, not_taken, by_sum}
 use Rattle.win_cosines.proofs.loaded.Goals as goal
+use Rattle.verdict.specs.declared.Reason.TheVariants as Reason
 
 pub returns-then-count-lt1 : goal.returns-then-count-lt1
 returns-then-count-lt1 c cs k is = c.miscounted.ensures ∙ too_few cs k is (omega arith)
@@ -14,13 +14,13 @@ returns-then-count-gt5 c cs k is = c.miscounted-then-count-gt5.ensures ∙ too_m
 
 pub returns-then-sums_to_one : goal.returns-then-sums_to_one
 returns-then-sums_to_one c cs k is =
-    ap (λ (b : Bool). cond b (Loaded c.args.c) (Refused (Plain bad_coefficient_sum))) (sym c.if-sums_to_one.true)
-    ∙ by_sum cs k is (omega arith) (omega arith) c.sums_to_one.result (sym c.in-Done.is ∙ c.judge-verdict.ensures) c.sums_to_one.ensures
+    ap (λ (b : Bool). cond b (Ok c.args.c) (Err (Plain Reason.CoefficientSum))) (sym c.if-sums_to_one.true)
+    ∙ by_sum cs k is (omega arith) (omega arith) c.sums_to_one.result (sym c.in-Ok.is ∙ c.judge-verdict.ensures) c.sums_to_one.ensures
 
 pub returns-else-sums_to_one : goal.returns-else-sums_to_one
 returns-else-sums_to_one c cs k is =
-    ap (λ (b : Bool). cond b (Loaded c.args.c) (Refused (Plain bad_coefficient_sum))) (sym c.if-sums_to_one.false)
-    ∙ by_sum cs k is (omega arith) (omega arith) c.sums_to_one.result (sym c.in-Done.is ∙ c.judge-verdict.ensures) c.sums_to_one.ensures
+    ap (λ (b : Bool). cond b (Ok c.args.c) (Err (Plain Reason.CoefficientSum))) (sym c.if-sums_to_one.false)
+    ∙ by_sum cs k is (omega arith) (omega arith) c.sums_to_one.result (sym c.in-Ok.is ∙ c.judge-verdict.ensures) c.sums_to_one.ensures
 
-pub returns-in-Refused : goal.returns-in-Refused
-returns-in-Refused c cs k is = not_taken cs k is (omega arith) (omega arith) _ (sym c.in-Refused.is ∙ c.judge-verdict.ensures)
+pub returns-in-Err : goal.returns-in-Err
+returns-in-Err c cs k is = not_taken cs k is (omega arith) (omega arith) _ (sym c.in-Err.is ∙ c.judge-verdict.ensures)

@@ -8,5 +8,5 @@ pub returns-in-Read : goal.returns-in-Read
 unfolding of_int of_bits
 returns-in-Read c = rw (c.accepted-report.ensures, c.numbers_of-numbers.ensures) (ap told_of (sym c.in-Read.is ∙ c.read-reading.ensures))
 
-pub returns-in-Refused : goal.returns-in-Refused
-returns-in-Refused c = rw c.refused-report.ensures (ap told_of (sym c.in-Refused.is ∙ c.read-reading.ensures))
+pub returns-in-Err : goal.returns-in-Err
+returns-in-Err c = rw c.from-report.ensures (ap told_of (sym c.in-Err.is ∙ c.read-reading.ensures))

@@ -4,9 +4,9 @@ use lib.Ieee.{of_int, of_bits}
 use Rattle.verdict.specs.Reports.{done_report}
 use Rattle.c_card.proofs.reading.told_end.Goals as goal
 
-pub returns-in-Done : goal.returns-in-Done
+pub returns-in-Ok : goal.returns-in-Ok
 unfolding of_int of_bits
-returns-in-Done c = c.accepted.ensures ∙ ap (done_report c.args.n) (sym c.in-Done.is)
+returns-in-Ok c = c.accepted.ensures ∙ ap (done_report c.args.n) (sym c.in-Ok.is)
 
-pub returns-in-Refused : goal.returns-in-Refused
-returns-in-Refused c = c.refused.ensures ∙ ap (done_report c.args.n) (sym c.in-Refused.is)
+pub returns-in-Err : goal.returns-in-Err
+returns-in-Err c = c.from.ensures ∙ ap (done_report c.args.n) (sym c.in-Err.is)

@@ -20,30 +20,30 @@ put_all-converted-requires c =
     c.judge_lengths-lengths.result ≡ lengths_of (width_of a.format) a.group (length a.src.now) (length a.out.now)) = let a = c.args in
     c.judge_lengths-lengths.ensures ∙ ap (λ (w : ℕ). lengths_of w a.group (length a.src.now) (length a.out.now)) c.width.ensures in
     let both_of = let a = c.args in
-    right_lengths (width_of a.format) a.group (length a.src.now) (length a.out.now) (sym judged ∙ c.in-Done.is) in record { whole = both_of.0; room = both_of.1 }
+    right_lengths (width_of a.format) a.group (length a.src.now) (length a.out.now) (sym judged ∙ c.in-Ok.is) in record { whole = both_of.0; room = both_of.1 }
 
-pub returns-in-Done-converted : goal.returns-in-Done-converted
+pub returns-in-Ok-converted : goal.returns-in-Ok-converted
 unfolding of_int of_bits
-returns-in-Done-converted c =
+returns-in-Ok-converted c =
     let judged : (let a = c.args in
     c.judge_lengths-lengths.result ≡ lengths_of (width_of a.format) a.group (length a.src.now) (length a.out.now)) = let a = c.args in
     c.judge_lengths-lengths.ensures ∙ ap (λ (w : ℕ). lengths_of w a.group (length a.src.now) (length a.out.now)) c.width.ensures in
     let a = c.args in
-    converts (sym judged ∙ c.in-Done.is)
-    (c.accepted.ensures ∙ ap (done_report (length a.src.now / 8)) (sym c.in-Done-converted.is ∙ c.put_all-converted.ensures.answer)) c.put_all-converted.ensures.buffer
+    converts (sym judged ∙ c.in-Ok.is)
+    (c.accepted.ensures ∙ ap (done_report (length a.src.now / 8)) (sym c.in-Ok-converted.is ∙ c.put_all-converted.ensures.answer)) c.put_all-converted.ensures.buffer
 
-pub returns-in-Refused-converted : goal.returns-in-Refused-converted
-returns-in-Refused-converted c =
+pub returns-in-Err-converted : goal.returns-in-Err-converted
+returns-in-Err-converted c =
     let judged : (let a = c.args in
     c.judge_lengths-lengths.result ≡ lengths_of (width_of a.format) a.group (length a.src.now) (length a.out.now)) = let a = c.args in
     c.judge_lengths-lengths.ensures ∙ ap (λ (w : ℕ). lengths_of w a.group (length a.src.now) (length a.out.now)) c.width.ensures in
     let a = c.args in
-    converts (sym judged ∙ c.in-Done.is)
-    (c.refused.ensures ∙ ap (done_report (length a.src.now / 8)) (sym c.in-Refused-converted.is ∙ c.put_all-converted.ensures.answer)) c.put_all-converted.ensures.buffer
+    converts (sym judged ∙ c.in-Ok.is)
+    (c.from.ensures ∙ ap (done_report (length a.src.now / 8)) (sym c.in-Err-converted.is ∙ c.put_all-converted.ensures.answer)) c.put_all-converted.ensures.buffer
 
-pub returns-in-Refused : goal.returns-in-Refused
-returns-in-Refused c =
+pub returns-in-Err : goal.returns-in-Err
+returns-in-Err c =
     let judged : (let a = c.args in
     c.judge_lengths-lengths.result ≡ lengths_of (width_of a.format) a.group (length a.src.now) (length a.out.now)) = let a = c.args in
     c.judge_lengths-lengths.ensures ∙ ap (λ (w : ℕ). lengths_of w a.group (length a.src.now) (length a.out.now)) c.width.ensures in
-    converts (sym judged ∙ c.in-Refused.is) c.refused-in-Refused.ensures refl
+    converts (sym judged ∙ c.in-Err.is) c.from-in-Err.ensures refl

@@ -30,23 +30,23 @@ store-requires c =
     let most = mul-le-mul_left w c.loop-i-test.true in
     omega (arith, place, most, mul-suc w i, same_as, c.requires.room)
 
-pub shape_of-out-in-Refused : goal.shape_of-out-in-Refused
-shape_of-out-in-Refused c =
+pub shape_of-out-in-Err : goal.shape_of-out-in-Err
+shape_of-out-in-Err c =
     let same_as : length c.loop-i.out ≡ length c.args.out.now = c.loop-i.invariant.1.prefix.size in
     same_as
 
-pub returns-in-Refused : goal.returns-in-Refused
-returns-in-Refused c =
+pub returns-in-Err : goal.returns-in-Err
+returns-in-Err c =
     let outcome : (let a = c.args in
     c.encode-e.result ≡ encoded_of a.format c.loop-i.i (float_at a.src.now (8 * c.loop-i.i))) = c.encode-e.ensures ∙ ap (encoded_of c.args.format c.loop-i.i) (c.float_of.ensures ∙ c.bits_at.ensures) in
-    one_refused c.loop-i.invariant.1 c.requires.room c.loop-i-test.true (sym outcome ∙ c.in-Refused.is)
+    one_refused c.loop-i.invariant.1 c.requires.room c.loop-i-test.true (sym outcome ∙ c.in-Err.is)
 
 pub loop-i-preserved : goal.loop-i-preserved
 loop-i-preserved c =
     let outcome : (let a = c.args in
     c.encode-e.result ≡ encoded_of a.format c.loop-i.i (float_at a.src.now (8 * c.loop-i.i))) = c.encode-e.ensures ∙ ap (encoded_of c.args.format c.loop-i.i) (c.float_of.ensures ∙ c.bits_at.ensures) in
-    let stored = c.store.ensures ∙ ap (λ (w : ℕ). put_of (width_of c.args.format) c.loop-i.out (w * c.loop-i.i) c.in-Pattern.pattern) c.width-wide.ensures in
-    (omega arith, one_more c.loop-i.invariant.1 c.requires.room c.loop-i-test.true (sym outcome ∙ c.in-Pattern.is) stored)
+    let stored = c.store.ensures ∙ ap (λ (w : ℕ). put_of (width_of c.args.format) c.loop-i.out (w * c.loop-i.i) c.in-Ok.pattern) c.width-wide.ensures in
+    (omega arith, one_more c.loop-i.invariant.1 c.requires.room c.loop-i-test.true (sym outcome ∙ c.in-Ok.is) stored)
 
 pub shape_of-out : goal.shape_of-out
 shape_of-out c =

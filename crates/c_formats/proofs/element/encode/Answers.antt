@@ -1,7 +1,7 @@
 -- `c_formats::element::encode` meets its contract. Assumes nothing.
+use Rattle.std.specs.Prelude.{Ok}
 use mathlib.Core.Path.{sym, ap, ◌∙◌}
 use Rattle.c_formats.specs.declared.element.Format.{Format}
-use Rattle.c_formats.specs.declared.element.Encoded.TheVariants.{Pattern}
 use Rattle.c_formats.specs.Formats.{pattern_of, encoded_of, coded_of}
 use Rattle.c_formats.specs.FormatLaws.{encoded_q15, encoded_q14, encoded_single}
 use Rattle.c_formats.proofs.element.encode.Goals as goal
@@ -20,4 +20,4 @@ pub returns-in-Single : goal.returns-in-Single
 unfolding pattern_of
 returns-in-Single c =
     let a = c.args in
-    ap Pattern c.pattern_of.ensures ∙ encoded_single a.i a.x ∙ ap (λ (f : Format). encoded_of f a.i a.x) (sym c.in-Single.is)
+    ap Ok c.pattern_of.ensures ∙ encoded_single a.i a.x ∙ ap (λ (f : Format). encoded_of f a.i a.x) (sym c.in-Single.is)

@@ -1,9 +1,11 @@
 -- `c_lowpass::prototype::pel_channelizer_lowpass` meets its contract. Assumes nothing.
+use Rattle.std.specs.Prelude.{Result}
 use mathlib.Core.Path.{ap, ◌∙◌}
 use Rattle.fir_lowpass.specs.Lowpass.{outcome_of}
-use Rattle.fir_lowpass.specs.declared.lowpass.Designed.{Designed}
 use Rattle.verdict.specs.Reports.{outcome_report}
 use Rattle.c_lowpass.proofs.prototype.pel_channelizer_lowpass.Goals as goal
+use Rattle.verdict.specs.declared.Refusal.{Refusal}
+use Rattle.fir_lowpass.specs.declared.lowpass.Lowpass.{Lowpass}
 
 pub returns : goal.returns
-returns c = c.told_lowpass.ensures ∙ ap (λ (d : Designed). outcome_report (outcome_of d)) c.channelizer_lowpass.ensures
+returns c = c.told_lowpass.ensures ∙ ap (λ (d : Result Lowpass Refusal). outcome_report (outcome_of d)) c.channelizer_lowpass.ensures

@@ -4,4 +4,4 @@ use Rattle.verdict.specs.Reports.{length_report}
 use Rattle.c_lowpass.proofs.prototype.pel_channelizer_taps_per_branch.Goals as goal
 
 pub returns : goal.returns
-returns c = c.told_length.ensures ∙ ap length_report c.channelizer_taps_per_branch.ensures
+returns c = c.from.ensures ∙ ap length_report c.channelizer_taps_per_branch.ensures

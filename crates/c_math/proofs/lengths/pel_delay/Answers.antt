@@ -4,9 +4,9 @@ use lib.Ieee.{of_int, of_bits}
 use Rattle.c_math.specs.Reports.{delay_report}
 use Rattle.c_math.proofs.lengths.pel_delay.Goals as goal
 
-pub returns-in-HalfSamples : goal.returns-in-HalfSamples
+pub returns-in-Ok : goal.returns-in-Ok
 unfolding of_int of_bits
-returns-in-HalfSamples c = c.accepted.ensures ∙ ap delay_report (sym c.in-HalfSamples.is ∙ c.delay-delayed.ensures)
+returns-in-Ok c = c.accepted.ensures ∙ ap delay_report (sym c.in-Ok.is ∙ c.delay-delayed.ensures)
 
-pub returns-in-Refused : goal.returns-in-Refused
-returns-in-Refused c = c.refused.ensures ∙ ap delay_report (sym c.in-Refused.is ∙ c.delay-delayed.ensures)
+pub returns-in-Err : goal.returns-in-Err
+returns-in-Err c = c.from.ensures ∙ ap delay_report (sym c.in-Err.is ∙ c.delay-delayed.ensures)

@@ -4,4 +4,4 @@ use Rattle.verdict.specs.Reports.{length_report}
 use Rattle.c_math.proofs.lengths.pel_halfband_len.Goals as goal
 
 pub returns : goal.returns
-returns c = c.told_length.ensures ∙ ap length_report c.halfband_len.ensures
+returns c = c.from.ensures ∙ ap length_report c.halfband_len.ensures

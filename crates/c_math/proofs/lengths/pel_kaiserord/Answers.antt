@@ -3,8 +3,8 @@ use mathlib.Core.Path.{sym, ap, ◌∙◌}
 use Rattle.c_math.specs.Reports.{order_report}
 use Rattle.c_math.proofs.lengths.pel_kaiserord.Goals as goal
 
-pub returns-in-Taps : goal.returns-in-Taps
-returns-in-Taps c = c.accepted.ensures ∙ ap order_report (sym c.in-Taps.is ∙ c.kaiserord-order.ensures)
+pub returns-in-Ok : goal.returns-in-Ok
+returns-in-Ok c = c.accepted.ensures ∙ ap order_report (sym c.in-Ok.is ∙ c.kaiserord-order.ensures)
 
-pub returns-in-Refused : goal.returns-in-Refused
-returns-in-Refused c = c.refused.ensures ∙ ap order_report (sym c.in-Refused.is ∙ c.kaiserord-order.ensures)
+pub returns-in-Err : goal.returns-in-Err
+returns-in-Err c = c.from.ensures ∙ ap order_report (sym c.in-Err.is ∙ c.kaiserord-order.ensures)

@@ -8,10 +8,10 @@ use Rattle.verdict.specs.Report.{accepted_of}
 use Rattle.c_math.specs.Reports.{coded_report}
 use Rattle.c_math.proofs.single.told.Goals as goal
 
-pub returns-in-Number : goal.returns-in-Number
-returns-in-Number c =
-    let held = to_z-of_z w16 c.in-Number.q (record { sfits = c.in-Number.known_told-1-own.given.0.1 }) in
-    c.accepted.ensures ∙ ap (λ (z : ℤ). accepted_of 0 (of_int binary64 z)) held ∙ ap coded_report (sym c.in-Number.is)
+pub returns-in-Ok : goal.returns-in-Ok
+returns-in-Ok c =
+    let held = to_z-of_z w16 c.in-Ok.q (record { sfits = c.in-Ok.known_told-1-own.given.0.1 }) in
+    c.accepted.ensures ∙ ap (λ (z : ℤ). accepted_of 0 (of_int binary64 z)) held ∙ ap coded_report (sym c.in-Ok.is)
 
-pub returns-in-Refused : goal.returns-in-Refused
-returns-in-Refused c = c.refused.ensures ∙ ap coded_report (sym c.in-Refused.is)
+pub returns-in-Err : goal.returns-in-Err
+returns-in-Err c = c.from.ensures ∙ ap coded_report (sym c.in-Err.is)

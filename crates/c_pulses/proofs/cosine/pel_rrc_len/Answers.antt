@@ -4,4 +4,4 @@ use Rattle.verdict.specs.Reports.{length_report}
 use Rattle.c_pulses.proofs.cosine.pel_rrc_len.Goals as goal
 
 pub returns : goal.returns
-returns c = c.told_length.ensures ∙ ap length_report c.rrc_len.ensures
+returns c = c.from.ensures ∙ ap length_report c.rrc_len.ensures

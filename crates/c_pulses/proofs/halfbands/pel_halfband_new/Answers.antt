@@ -1,16 +1,18 @@
 -- `c_pulses::halfbands::pel_halfband_new` meets its contract, a design and a refusal. Assumes nothing.
+use Rattle.std.specs.Prelude.{Result}
 use mathlib.Core.Path.{sym, ap, ◌∙◌}
 use Rattle.verdict.specs.declared.Report.{Report}
-use Rattle.fir_halfband.specs.declared.HalfbandDesigned.{HalfbandDesigned}
 use Rattle.verdict.specs.Reports.{outcome_report}
 use Rattle.fir_halfband.specs.Halfband.{outcome_of}
 use Rattle.c_pulses.proofs.halfbands.pel_halfband_new.Goals as goal
+use Rattle.verdict.specs.declared.Refusal.{Refusal}
+use Rattle.fir_halfband.specs.declared.HalfbandDesign.{HalfbandDesign}
 
-abbrev told : HalfbandDesigned → Report
+abbrev told : Result HalfbandDesign Refusal → Report
 told d = outcome_report (outcome_of d)
 
-pub returns-in-Ready : goal.returns-in-Ready
-returns-in-Ready c = c.accepted.ensures ∙ ap told (sym c.in-Ready.is ∙ c.new-designed.ensures)
+pub returns-in-Ok : goal.returns-in-Ok
+returns-in-Ok c = c.accepted.ensures ∙ ap told (sym c.in-Ok.is ∙ c.new-designed.ensures)
 
-pub returns-in-Refused : goal.returns-in-Refused
-returns-in-Refused c = c.refused.ensures ∙ ap told (sym c.in-Refused.is ∙ c.new-designed.ensures)
+pub returns-in-Err : goal.returns-in-Err
+returns-in-Err c = c.from.ensures ∙ ap told (sym c.in-Err.is ∙ c.new-designed.ensures)

@@ -3,4 +3,4 @@ use mathlib.Core.Path.{sym}
 use Rattle.c_retune.proofs.write.left.Goals as goal
 
 pub returns : goal.returns
-returns c = sym (rw (sym c.refused.ensures))
+returns c = sym (rw (sym c.from.ensures))

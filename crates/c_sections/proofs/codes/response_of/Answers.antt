@@ -1,12 +1,12 @@
 -- `c_sections::codes::response_of` meets its contract, a code at a time. Assumes nothing.
+use Rattle.std.specs.Prelude.{None}
 use mathlib.Core.Path.{◌≡◌, refl}
 use Prim.Native.Nat.{ℕ, zero, suc, ◌<◌}
 use native.Mathlib.Omega.{arith}
 use Rattle.c_sections.specs.Codes.{response_of}
-use Rattle.c_sections.specs.declared.codes.Coded.TheVariants.{Unknown}
 use Rattle.c_sections.proofs.codes.response_of.Goals as goal
 
-other : (code : ℕ) → 3 < code → Unknown ≡ response_of code
+other : (code : ℕ) → 3 < code → None ≡ response_of code
 unfolding response_of
 other zero h = absurd (omega arith)
 other (suc zero) h = absurd (omega arith)

@@ -17,7 +17,7 @@ pub returns-then-len-ne24 : goal.returns-then-len-ne24
 returns-then-len-ne24 c =
     let len : ℕ = length c.args.out.now in
     let outcome : Outcome = told (preemphasis_of c.args.tau c.args.rate) in
-    leaves_other len 24 outcome c.if-len-ne24.true c.refused.ensures
+    leaves_other len 24 outcome c.if-len-ne24.true c.from.ensures
 
 pub returns : goal.returns
 returns c =

@@ -1,12 +1,12 @@
 -- `c_windows::codes::symmetry_of` meets its contract, a code at a time. Assumes nothing.
+use Rattle.std.specs.Prelude.{None}
 use mathlib.Core.Path.{◌≡◌, refl}
 use Prim.Native.Nat.{ℕ, zero, suc, ◌<◌}
 use native.Mathlib.Omega.{arith}
 use Rattle.c_windows.specs.Codes.{symmetry_of}
-use Rattle.c_windows.specs.declared.codes.Coded.TheVariants.{Unknown}
 use Rattle.c_windows.proofs.codes.symmetry_of.Goals as goal
 
-other : (code : ℕ) → 1 < code → Unknown ≡ symmetry_of code
+other : (code : ℕ) → 1 < code → None ≡ symmetry_of code
 unfolding symmetry_of
 other zero h = absurd (omega arith)
 other (suc zero) h = absurd (omega arith)

@@ -1,9 +1,9 @@
 -- `fir_length::order::halfband_len` meets its contract. Assumes nothing.
+use Rattle.std.specs.Prelude.{Ok}
 use mathlib.Core.Path.{◌≡◌, sym, ap, ◌∙◌}
 use Prim.Native.Nat.{ℕ, ◌+◌, ◌%◌}
 use borrow.Author.Tests.{eq-eqb, ne_eqb}
 use Rattle.fir_length.specs.Kaiser.{halfband_up, lengthened, halfband_len_of}
-use Rattle.verdict.specs.declared.Length.TheVariants.{Taps}
 use Rattle.fir_length.proofs.order.halfband_len.Goals as goal
 
 up : (n : ℕ) → n % 4 ≡ 1 → halfband_up n ≡ n + 2
@@ -18,16 +18,16 @@ pub returns-then-n-eq1 : goal.returns-then-n-eq1
 unfolding halfband_len_of
 returns-then-n-eq1 c =
     let order : lengthened c.kaiserord-order.result ≡ halfband_len_of c.args.transition c.args.attenuation c.args.rate = ap lengthened c.kaiserord-order.ensures in
-    sym (sym order ∙ ap lengthened c.in-Taps.is ∙ ap Taps (up c.in-Taps.n c.if-n-eq1.true))
+    sym (sym order ∙ ap lengthened c.in-Ok.is ∙ ap Ok (up c.in-Ok.n c.if-n-eq1.true))
 
 pub returns-else-n-eq1 : goal.returns-else-n-eq1
 unfolding halfband_len_of
 returns-else-n-eq1 c =
     let order : lengthened c.kaiserord-order.result ≡ halfband_len_of c.args.transition c.args.attenuation c.args.rate = ap lengthened c.kaiserord-order.ensures in
-    sym (sym order ∙ ap lengthened c.in-Taps.is ∙ ap Taps (stays c.in-Taps.n c.if-n-eq1.false))
+    sym (sym order ∙ ap lengthened c.in-Ok.is ∙ ap Ok (stays c.in-Ok.n c.if-n-eq1.false))
 
-pub returns-in-Refused : goal.returns-in-Refused
+pub returns-in-Err : goal.returns-in-Err
 unfolding halfband_len_of
-returns-in-Refused c =
+returns-in-Err c =
     let order : lengthened c.kaiserord-order.result ≡ halfband_len_of c.args.transition c.args.attenuation c.args.rate = ap lengthened c.kaiserord-order.ensures in
-    sym (sym order ∙ ap lengthened c.in-Refused.is)
+    sym (sym order ∙ ap lengthened c.in-Err.is)

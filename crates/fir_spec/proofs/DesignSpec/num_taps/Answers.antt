@@ -3,10 +3,10 @@ use mathlib.Core.Path.{sym, ap, ◌∙◌}
 use Rattle.fir_spec.specs.Spec.{taps_in, num_taps_of}
 use Rattle.fir_spec.proofs.DesignSpec.num_taps.Goals as goal
 
-pub returns-in-Taps : goal.returns-in-Taps
+pub returns-in-Ok : goal.returns-in-Ok
 unfolding num_taps_of
-returns-in-Taps c = sym (ap taps_in (sym c.spec_order-order.ensures ∙ c.in-Taps.is))
+returns-in-Ok c = sym (ap taps_in (sym c.spec_order-order.ensures ∙ c.in-Ok.is))
 
-pub returns-in-Refused : goal.returns-in-Refused
+pub returns-in-Err : goal.returns-in-Err
 unfolding num_taps_of
-returns-in-Refused c = sym (ap taps_in (sym c.spec_order-order.ensures ∙ c.in-Refused.is))
+returns-in-Err c = sym (ap taps_in (sym c.spec_order-order.ensures ∙ c.in-Err.is))

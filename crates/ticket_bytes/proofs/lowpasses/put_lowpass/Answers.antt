@@ -14,7 +14,7 @@ pub returns-then-len-ne0 : goal.returns-then-len-ne0
 returns-then-len-ne0 c =
     let len : ℕ = length c.args.out.now in
     let outcome : Outcome = outcome_of (lowpass_of c.args.cutoff c.args.rate c.args.window (len / 8)) in
-    leaves_part 8 len outcome c.if-len-ne0.true c.refused.ensures
+    leaves_part 8 len outcome c.if-len-ne0.true c.from.ensures
 
 pub write_lowpass-requires : goal.write_lowpass-requires
 write_lowpass-requires c =

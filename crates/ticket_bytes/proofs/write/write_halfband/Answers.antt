@@ -4,10 +4,10 @@ use Rattle.ticket_bytes.specs.Sources.{of_halfband}
 use Rattle.wire.proofs.WritesLaws.{leaves, fills_room}
 use Rattle.ticket_bytes.proofs.write.write_halfband.Goals as goal
 
-pub returns-in-Ready : goal.returns-in-Ready
-returns-in-Ready c =
-    let d = c.in-Ready.d in
-    fills_room (ap of_halfband c.in-Ready.is) c.accepted.ensures c.requires.room (c.put_taps.ensures (c.requires.raws d c.in-Ready.is))
+pub returns-in-Ok : goal.returns-in-Ok
+returns-in-Ok c =
+    let d = c.in-Ok.d in
+    fills_room (ap of_halfband c.in-Ok.is) c.accepted.ensures c.requires.room (c.put_taps.ensures (c.requires.raws d c.in-Ok.is))
 
-pub returns-in-Refused : goal.returns-in-Refused
-returns-in-Refused c = leaves (ap of_halfband c.in-Refused.is) c.refused.ensures
+pub returns-in-Err : goal.returns-in-Err
+returns-in-Err c = leaves (ap of_halfband c.in-Err.is) c.from.ensures

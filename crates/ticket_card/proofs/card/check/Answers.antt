@@ -35,10 +35,10 @@ loop-at-preserved c =
     let e = sym (ap read_of (part_to_end d c.loop-at.at)) ∙ sym c.read.ensures ∙ c.in-Read.is in
     one_more c.loop-at.invariant c.in-Read.field-0 c.in-Read.taken e
 
-pub returns-in-Refused : goal.returns-in-Refused
-returns-in-Refused c =
+pub returns-in-Err : goal.returns-in-Err
+returns-in-Err c =
     let d = c.args.src.now in
-    let e = sym (ap read_of (part_to_end d c.loop-at.at)) ∙ sym c.read.ensures ∙ c.in-Refused.is in
+    let e = sym (ap read_of (part_to_end d c.loop-at.at)) ∙ sym c.read.ensures ∙ c.in-Err.is in
     broken c.loop-at.invariant _ refl refl refl (omega arith) e
 
 pub returns : goal.returns

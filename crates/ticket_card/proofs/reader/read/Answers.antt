@@ -42,18 +42,18 @@ numbers_in-requires c =
     let few = counts c.kind_in-kind.result (ne_eqb _ 0 (λ e. c.if-count-eq0.false (c.field_count-count.ensures ∙ e))) in
     (omega (arith, few.0, c.field_count-count.ensures), omega (arith, few.1, c.field_count-count.ensures), λ e. few.2 (sym c.field_count-count.ensures ∙ e), omega arith)
 
-pub returns-in-Known : goal.returns-in-Known
-returns-in-Known c =
+pub returns-in-Ok : goal.returns-in-Ok
+returns-in-Ok c =
     let d = c.args.src.now in
     let xs = fields_in c.field_count-count.result (drop 6 d) in
     let told = c.ticket_of-formed.ensures ∙ ap formed_of c.numbers_in.ensures ∙ formed_numbers c.kind_in-kind.result xs in
-    ap (read_as (record_length c.field_count-count.result)) (sym c.in-Known.is ∙ told)
+    ap (read_as (record_length c.field_count-count.result)) (sym c.in-Ok.is ∙ told)
     ∙ there d c.kind_in-kind.result c.field_count-count.result c.kind_in-kind.ensures c.field_count-count.ensures (omega arith) c.if-count-eq0.false (sym c.length_in-told.ensures ∙ c.if-told-count.false) (omega arith)
 
-pub returns-in-Refused : goal.returns-in-Refused
-returns-in-Refused c =
+pub returns-in-Err : goal.returns-in-Err
+returns-in-Err c =
     let d = c.args.src.now in
     let xs = fields_in c.field_count-count.result (drop 6 d) in
     let told = c.ticket_of-formed.ensures ∙ ap formed_of c.numbers_in.ensures ∙ formed_numbers c.kind_in-kind.result xs in
-    ap (read_as (record_length c.field_count-count.result)) (sym c.in-Refused.is ∙ told)
+    ap (read_as (record_length c.field_count-count.result)) (sym c.in-Err.is ∙ told)
     ∙ there d c.kind_in-kind.result c.field_count-count.result c.kind_in-kind.ensures c.field_count-count.ensures (omega arith) c.if-count-eq0.false (sym c.length_in-told.ensures ∙ c.if-told-count.false) (omega arith)

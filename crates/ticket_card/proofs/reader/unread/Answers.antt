@@ -20,8 +20,8 @@ returns-in-Read c =
     let e : read_of d ≡ Read c.in-Read.field-0 c.in-Read.taken = sym c.read.ensures ∙ c.in-Read.is in
     part_to_end d c.in-Read.taken ∙ ap (λ (r : Reading). drop (taken_of r) d) (sym e)
 
-pub returns-in-Refused : goal.returns-in-Refused
-returns-in-Refused c =
+pub returns-in-Err : goal.returns-in-Err
+returns-in-Err c =
     let d = c.args.src.now in
-    let e : read_of d ≡ Refused c.in-Refused.field-0 = sym c.read.ensures ∙ c.in-Refused.is in
+    let e : read_of d ≡ Refused c.in-Err.field-0 = sym c.read.ensures ∙ c.in-Err.is in
     ap (λ (r : Reading). drop (taken_of r) d) (sym e)

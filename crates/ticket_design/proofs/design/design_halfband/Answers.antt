@@ -15,7 +15,7 @@ unfolding ticket_outcome
 returns-then-other_count c =
     let len : ℕ = length c.args.out.now in
     let outcome : Outcome = outcome_of (halfband_of (float c.args.h.beta) (len / 8)) in
-    leaves (other_count c.args.h.count len outcome (sym c.other_count.ensures ∙ c.if-other_count.true)) c.refused.ensures
+    leaves (other_count c.args.h.count len outcome (sym c.other_count.ensures ∙ c.if-other_count.true)) c.from.ensures
 
 pub returns : goal.returns
 unfolding ticket_outcome

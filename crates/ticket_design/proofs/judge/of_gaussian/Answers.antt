@@ -1,8 +1,8 @@
 -- `ticket_design::judge::of_gaussian` meets its contract, a design and a refusal. Assumes nothing.
 use Rattle.ticket_design.proofs.judge.of_gaussian.Goals as goal
 
-pub returns-in-Ready : goal.returns-in-Ready
-returns-in-Ready c = rw c.in-Ready.is
+pub returns-in-Ok : goal.returns-in-Ok
+returns-in-Ok c = rw c.in-Ok.is
 
-pub returns-in-Refused : goal.returns-in-Refused
-returns-in-Refused c = rw c.in-Refused.is
+pub returns-in-Err : goal.returns-in-Err
+returns-in-Err c = rw c.in-Err.is

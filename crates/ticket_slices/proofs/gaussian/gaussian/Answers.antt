@@ -24,7 +24,7 @@ bounds-taps-i c =
     omega arith
 
 pub loop-i-preserved : goal.loop-i-preserved
-loop-i-preserved c = (omega arith, cc (fill_more c.loop-i.i (tap_of c.in-Ready.g) c.args.taps.now (omega arith)))
+loop-i-preserved c = (omega arith, cc (fill_more c.loop-i.i (tap_of c.in-Ok.g) c.args.taps.now (omega arith)))
 
 pub shape_of-taps : goal.shape_of-taps
 shape_of-taps c = ap length c.loop-i.invariant.1 ∙ length_filled _ _ _ (omega arith)
@@ -32,8 +32,8 @@ shape_of-taps c = ap length c.loop-i.invariant.1 ∙ length_filled _ _ _ (omega 
 pub returns-after-loop-i : goal.returns-after-loop-i
 returns-after-loop-i c =
     let e : c.loop-i.i ≡ length c.args.taps.now = omega arith in
-    let k = fill_all c.loop-i.i (tap_of c.in-Ready.g) c.args.taps.now (omega arith) in
-    fills (ap outcome_of (sym c.fitted-designed.ensures.is ∙ c.in-Ready.is)) cc
+    let k = fill_all c.loop-i.i (tap_of c.in-Ok.g) c.args.taps.now (omega arith) in
+    fills (ap outcome_of (sym c.fitted-designed.ensures.is ∙ c.in-Ok.is)) cc
 
-pub returns-in-Refused : goal.returns-in-Refused
-returns-in-Refused c = leaves c.in-Refused.why (ap outcome_of (sym c.fitted-designed.ensures.is ∙ c.in-Refused.is))
+pub returns-in-Err : goal.returns-in-Err
+returns-in-Err c = leaves c.in-Err.why (ap outcome_of (sym c.fitted-designed.ensures.is ∙ c.in-Err.is))

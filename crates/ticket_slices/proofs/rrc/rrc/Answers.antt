@@ -21,7 +21,7 @@ bounds-taps-k c =
     omega arith
 
 pub loop-k-preserved : goal.loop-k-preserved
-loop-k-preserved c = (omega arith, cc (fill_more c.loop-k.k (tap_of c.in-Ready.d) c.args.taps.now (omega arith)))
+loop-k-preserved c = (omega arith, cc (fill_more c.loop-k.k (tap_of c.in-Ok.d) c.args.taps.now (omega arith)))
 
 pub shape_of-taps : goal.shape_of-taps
 shape_of-taps c = ap length c.loop-k.invariant.1 ∙ length_filled _ _ _ (omega arith)
@@ -29,8 +29,8 @@ shape_of-taps c = ap length c.loop-k.invariant.1 ∙ length_filled _ _ _ (omega 
 pub returns-after-loop-k : goal.returns-after-loop-k
 returns-after-loop-k c =
     let e : c.loop-k.k ≡ length c.args.taps.now = omega arith in
-    let k = fill_all c.loop-k.k (tap_of c.in-Ready.d) c.args.taps.now (omega arith) in
-    fills (ap outcome_of (sym c.fitted-designed.ensures ∙ c.in-Ready.is)) cc
+    let k = fill_all c.loop-k.k (tap_of c.in-Ok.d) c.args.taps.now (omega arith) in
+    fills (ap outcome_of (sym c.fitted-designed.ensures ∙ c.in-Ok.is)) cc
 
-pub returns-in-Refused : goal.returns-in-Refused
-returns-in-Refused c = leaves c.in-Refused.why (ap outcome_of (sym c.fitted-designed.ensures ∙ c.in-Refused.is))
+pub returns-in-Err : goal.returns-in-Err
+returns-in-Err c = leaves c.in-Err.why (ap outcome_of (sym c.fitted-designed.ensures ∙ c.in-Err.is))

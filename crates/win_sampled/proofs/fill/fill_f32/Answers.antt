@@ -18,7 +18,7 @@ pub shape_of-out : goal.shape_of-out
 shape_of-out c = same_size c.loop-i.invariant
 
 pub returns-after-loop-i : goal.returns-after-loop-i
-returns-after-loop-i c = fill_done c.loop-i.invariant c.judge-judged.ensures c.in-Done.is c.norm-i0.ensures c.divisor-d.ensures (omega arith)
+returns-after-loop-i c = fill_done c.loop-i.invariant c.judge-judged.ensures c.in-Ok.is c.norm-i0.ensures c.divisor-d.ensures (omega arith)
 
-pub returns-in-Refused : goal.returns-in-Refused
-returns-in-Refused c = fill_refused c.judge-judged.ensures c.in-Refused.is
+pub returns-in-Err : goal.returns-in-Err
+returns-in-Err c = fill_refused c.judge-judged.ensures c.in-Err.is

@@ -1,8 +1,0 @@
--- `verdict::without_results` meets its contract. Assumes nothing.
-use Rattle.std.proofs.Common.{refl}
-use lib.Ieee.{of_int, of_bits}
-use Rattle.verdict.proofs.without_results.Goals as goal
-
-pub returns : goal.returns
-unfolding of_int of_bits
-returns c = refl
