@@ -3,11 +3,12 @@ use Rattle.std.specs.Prelude.{◌≡◌, Bool, true, false, cond, List, ℕ, ◌
 use Rattle.std.proofs.Common.{sym, arith}
 use Rattle.std.proofs.Math.ListN.{get_or-eq_default}
 use Rattle.laws.specs.Filled.{get_d_tabulate, length_tabulate}
+use Rattle.laws.specs.Results.{refused_never}
 use Rattle.wire.specs.Bytes.{float_at}
 use Rattle.verdict.specs.declared.Refusal.TheVariants.{Length}
 use Rattle.win_shapes.specs.declared.cosines.Cosines.{Cosines}
 use Rattle.win_cosines.specs.Load.{cosines_of, load_of}
-use Rattle.win_cosines.proofs.LoadLaws.{never, these}
+use Rattle.win_cosines.proofs.LoadLaws.{these}
 use Rattle.c_cosines.specs.Loads.{numbers_in, load_bytes}
 
 module _ (s : List ℕ) (i : ℕ) (z : Float) where
@@ -27,4 +28,4 @@ bytes_these s c e = go (eqb (length s % 8) 0) e
   where
     go : (b : Bool) → cond b (load_of (numbers_in s)) (Err (Length (length s - length s % 8) (length s))) ≡ Ok c → c ≡ cosines_of (numbers_in s)
     go true e = these (numbers_in s) c e
-    go false e = absurd (never _ c e)
+    go false e = absurd (refused_never e)

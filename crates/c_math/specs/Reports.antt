@@ -12,9 +12,9 @@ use Rattle.fir_length.specs.declared.order.Order.{Order}
 use Rattle.verdict.specs.declared.Refusal.{Refusal}
 
 -- taps and beta
-abbrev pub order_report : Order → Report
-order_report (Order.Taps n beta) = accepted_of n beta
-order_report (Order.Refused why) = report_of why
+abbrev pub order_report : Result Order Refusal → Report
+order_report (Ok o) = accepted_of o.taps o.beta
+order_report (Err why) = report_of why
 
 -- half samples
 abbrev pub delay_report : Result ℕ Refusal → Report

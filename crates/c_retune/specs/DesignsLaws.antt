@@ -4,6 +4,7 @@ use Rattle.std.specs.Prelude.{◌≡◌, refl, Bool, true, false, cond, List, �
 use Rattle.std.proofs.Common.{sym, ap, ◌∙◌, subst, eq-eqb, ne_eqb, eqb-true}
 use Rattle.laws.specs.Binary64.{whole}
 use Rattle.laws.specs.Cases.{either_way}
+use Rattle.laws.specs.Results.{refused_never, same_answer}
 use Rattle.verdict.specs.Counted.{Counted}
 use Rattle.verdict.specs.declared.Refusal.{Refusal}
 use Rattle.verdict.specs.declared.Refusal.TheVariants.{Plain, Length}
@@ -12,7 +13,6 @@ use Rattle.wire.proofs.WritesLaws.{room, leaves}
 use Rattle.fir_sinc.specs.declared.window.Window.{Window}
 use Rattle.fir_sinc.specs.declared.window.Window.TheVariants.{Kaiser}
 use Rattle.fir_lowpass.specs.Lowpass.{lowpass_with, lowpass_of, outcome_of}
-use Rattle.fir_lowpass.proofs.LowpassLaws.{never}
 use Rattle.fir_lowpass.specs.declared.lowpass.Lowpass.{Lowpass}
 use Rattle.fir_retune.specs.Retune.{new_cutoff_of, new_beta_of}
 use Rattle.fir_retune.proofs.RetuneLaws as Retune
@@ -28,7 +28,7 @@ module _ {d : Design} {x : Result Lowpass Refusal} {before : List ℕ} {r : Tune
   pub left_so : {why : Refusal} → x ≡ Err why → r ≡ left_of d why → Tunes d x before r before
   left_so e told = record { writes = leaves (ap outcome_of e) (ap (λ (z : Tuned). z.report) told); design = ap (λ (z : Tuned). z.design) told ∙ sym (ap (afterwards d) e) }
 
-  -- the same by another name
+  -- the same_answer name
   pub tunes_as : {y : Result Lowpass Refusal} {after : List ℕ} → x ≡ y → Tunes d x before r after → Tunes d y before r after
   tunes_as {y} {after} e h = subst (λ (z : Result Lowpass Refusal). Tunes d z before r after) e h
 
@@ -52,17 +52,14 @@ pub record Fitting (len : ℕ) (l : Lowpass) : Type 0 where
 pub read_fits : (d : Design) (len : ℕ) (l : Lowpass) → read_of d len ≡ Ok l → Fitting len l
 read_fits d len l e = by_code (window_of d.window d.beta) e
   where
-    same : (x y : Lowpass) → Ok x ≡ Ok y → x ≡ y
-    same x y e = cc
-
     tested : (w : Window) (a b : Bool) → eqb (len % 8) 0 ≡ a → eqb d.taps (len / 8) ≡ b → cond a (cond b (Ok (lowpass_as d w)) (Err (Length d.taps (len / 8)))) (Err (Length (len - len % 8) len)) ≡ Ok l → Fitting len l
-    tested w true true a b e = record { whole = eqb-true (len % 8) 0 a; long = ap (λ (z : Lowpass). z.n) (sym (same (lowpass_as d w) l e)) ∙ eqb-true d.taps (len / 8) b }
-    tested w true false a b e = absurd (never (Length d.taps (len / 8)) l e)
-    tested w false b a c e = absurd (never (Length (len - len % 8) len) l e)
+    tested w true true a b e = record { whole = eqb-true (len % 8) 0 a; long = ap (λ (z : Lowpass). z.n) (sym (same_answer e)) ∙ eqb-true d.taps (len / 8) b }
+    tested w true false a b e = absurd (refused_never e)
+    tested w false b a c e = absurd (refused_never e)
 
     by_code : (c : Option Window) → read_in d len c ≡ Ok l → Fitting len l
     by_code (Some w) e = tested w (eqb (len % 8) 0) (eqb d.taps (len / 8)) refl refl e
-    by_code None e = absurd (never (Plain Reason.Code) l e)
+    by_code None e = absurd (refused_never e)
 
 -- so a design of as many taps has room in it
 pub fitting_room : (len : ℕ) (l : Lowpass) (x : Result Lowpass Refusal) → Fitting len l → Counted l.n (outcome_of x) → Room len (outcome_of x)

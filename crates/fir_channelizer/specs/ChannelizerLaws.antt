@@ -7,10 +7,11 @@ use Rattle.std.proofs.Math.Arith.{digits_div}
 use Rattle.laws.specs.Binary64.{◌⊕◌, ◌⊖◌, ◌⊗◌, ◌⊘◌, whole}
 use Rattle.laws.specs.Floor.{upward}
 use Rattle.laws.specs.Tests.{both}
+use Rattle.laws.specs.Results.{refused_never, same_answer}
 use Rattle.verdict.specs.declared.Refusal.{Refusal}
 use Rattle.fir_length.specs.Kaiser.{beta_of, estimate}
 use Rattle.fir_lowpass.specs.Lowpass.{where_passed, lowpass_of, outcome_of}
-use Rattle.fir_lowpass.proofs.LowpassLaws.{never, prepares_as}
+use Rattle.fir_lowpass.proofs.LowpassLaws.{prepares_as}
 use Rattle.fir_lowpass.specs.Cached.{PreparesLowpass}
 use Rattle.fir_sinc.specs.declared.window.Window.TheVariants.{Kaiser}
 use Rattle.fir_lowpass.specs.declared.lowpass.Lowpass.{Lowpass}
@@ -120,18 +121,14 @@ accepted m l passband stopband a d e = go (channels_taken m) (branch_taken l) (e
   where
     go : (b c : Bool) (k : Result (Unit {0}) Refusal) (p : Result Lowpass Refusal) → cond b (cond c (where_passed k p) (Err (Refusal.Plain Reason.Count))) (Err (Refusal.Plain Reason.Count)) ≡ Ok d → p ≡ Ok d
     go true true (Ok tt) p e = e
-    go true true (Err why) p e = absurd (never why d e)
-    go true false k p e = absurd (never (Refusal.Plain Reason.Count) d e)
-    go false c k p e = absurd (never (Refusal.Plain Reason.Count) d e)
+    go true true (Err why) p e = absurd (refused_never e)
+    go true false k p e = absurd (refused_never e)
+    go false c k p e = absurd (refused_never e)
 
 -- and one for a buffer: the design is accepted without the buffer too, and has as many taps as that has elements
 fitted_is : (g : Result Lowpass Refusal) (len : ℕ) (d : Lowpass) → fitted_of g len ≡ Ok d → (g ≡ Ok d) × (d.n ≡ len)
-fitted_is (Err why) len d e = absurd (never why d e)
-fitted_is (Ok g) len d e = fitted Ok (λ (l : Lowpass). l.n) (Err (Refusal.Length g.n len)) len g d same (never (Refusal.Length g.n len) d) e
-  where
-    same : (x y : Lowpass) → Ok x ≡ Ok y → x ≡ y
-    same x y e = cc
-
+fitted_is (Err why) len d e = absurd (refused_never e)
+fitted_is (Ok g) len d e = fitted Ok (λ (l : Lowpass). l.n) (Err (Refusal.Length g.n len)) len g d (λ x y q. same_answer q) (λ q. refused_never q) e
 pub record Fitted (m l : ℕ) (passband stopband a : Float) (len : ℕ) (d : Lowpass) : Type 0 where
   pub is : lowpass_of ((passband ⊕ stopband) ⊘ (whole 2 ⊗ whole m)) (whole 1) (Kaiser (beta_of a)) (m * l) ≡ Ok d
   pub long : d.n ≡ len

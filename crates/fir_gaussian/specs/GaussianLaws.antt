@@ -5,6 +5,7 @@ use Rattle.std.proofs.Common.{sym, ap, ◌∙◌, subst, le_trans, le_of_eq, mul
 use Rattle.std.specs.Float.{nan}
 use Rattle.laws.specs.Binary64.{◌⊘◌, whole, fraction}
 use Rattle.laws.specs.Tests.{both}
+use Rattle.laws.specs.Results.{refused_never, same_answer}
 use Rattle.fir_cache.specs.Cached.{SumCached}
 use Rattle.verdict.specs.declared.Refusal.{Refusal}
 use Rattle.verdict.specs.declared.Refusal.TheVariants.{Range, Length}
@@ -49,10 +50,6 @@ module _ (bt : Float) (sps span : ℕ) where
   no_bt a = rw a
 
 -- ---- what an accepted ticket tells
--- a refusal is no design
-never : (why : Refusal) (g : Gaussian) → Err why ≢ Ok g
-never why g e = let z : ◌≡◌ {A = ℕ} 0 1 = cc in omega arith
-
 pub record AcceptedGaussian (bt : Float) (sps span : ℕ) (g : Gaussian) : Type 0 where
   pub is : g ≡ made_of bt sps (span * sps + 1)
   pub some : 0 < span * sps + 1
@@ -69,21 +66,18 @@ accepted bt sps span g e = go (bt_taken bt) (span_taken span) (samples_taken sps
         → cond a (cond b (cond c (Ok (made_of bt sps (span * sps + 1))) (Err (Range Reason.Count (whole 2) (whole (16777215 / span)) (whole sps)))) (Err (Range Reason.Count (whole 2) (whole 8) (whole span)))) (Err (Range Reason.Shape (fraction 2 10) (whole 1) bt)) ≡ Ok g
         → AcceptedGaussian bt sps span g
     go true true true k e = let t = few (span * sps) (k refl refl) in record { is = cc; some = t.0; most = t.1 }
-    go true true false k e = absurd (never (Range Reason.Count (whole 2) (whole (16777215 / span)) (whole sps)) g e)
-    go true false c k e = absurd (never (Range Reason.Count (whole 2) (whole 8) (whole span)) g e)
-    go false b c k e = absurd (never (Range Reason.Shape (fraction 2 10) (whole 1) bt) g e)
-
-same_record : (x y : Gaussian) → Ok x ≡ Ok y → x ≡ y
-same_record x y e = cc
+    go true true false k e = absurd (refused_never e)
+    go true false c k e = absurd (refused_never e)
+    go false b c k e = absurd (refused_never e)
 
 -- and one for a buffer: the design is accepted without the buffer too, and has as many taps as that has elements
 pub fitted_is : (d : Result Gaussian Refusal) (len : ℕ) (g : Gaussian) → fitted_of d len ≡ Ok g → (d ≡ Ok g) × (g.n ≡ len)
-fitted_is (Err why) len g e = absurd (never why g e)
-fitted_is (Ok d) len g e = fitted Ok (λ (x : Gaussian). x.n) (Err (Length d.n len)) len d g same_record (never (Length d.n len) g) e
+fitted_is (Err why) len g e = absurd (refused_never e)
+fitted_is (Ok d) len g e = fitted Ok (λ (x : Gaussian). x.n) (Err (Length d.n len)) len d g (λ x y q. same_answer q) (λ q. refused_never q) e
 
 -- ---- answers with what was kept
 pub refuses : (d : Result Gaussian Refusal) (rs : List Float) (why : Refusal) → d ≡ Err why → PreparesGaussian d (Err why) rs
-refuses d rs why h = record { is = sym h; raws = λ g e. absurd (never why g e) }
+refuses d rs why h = record { is = sym h; raws = λ g e. absurd (refused_never e) }
 
 pub accepts : (bt : Float) (sps n : ℕ) (s : Float) (rs : List Float) (d : Result Gaussian Refusal) → d ≡ Ok (made_of bt sps n)
     → SumCached (raw_at (exponent bt) (whole sps) (whole (n - 1) ⊘ whole 2)) n s rs
@@ -93,7 +87,7 @@ accepts bt sps n s rs d h t =
     let made : Float → Gaussian = λ z. record { a = exponent bt; sps = whole sps; mid = whole (n - 1) ⊘ whole 2; n = n; sum = z } in
     record {
       is = ap (λ (z : Float). Ok (record { a = exponent bt; sps = whole sps; mid = whole (n - 1) ⊘ whole 2; n = n; sum = z })) t.is ∙ sym h;
-      raws = λ g e. subst (λ (z : Gaussian). Caches z rs) (same_record (made s) g e) t.keeps;
+      raws = λ g e. subst (λ (z : Gaussian). Caches z rs) (same_answer e) t.keeps;
     }
 
 -- a design that was prepared, by another name

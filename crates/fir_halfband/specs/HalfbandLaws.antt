@@ -11,6 +11,7 @@ use Rattle.fir_lowpass.specs.declared.lowpass.Lowpass.{Lowpass}
 use Rattle.fir_halfband.specs.Halfband.{length_taken, quarter_of, unscaled, divisor_of, halfband_in, halfband_of, tap_of, PreparesHalfband, outcome_of}
 use Rattle.fir_halfband.specs.declared.HalfbandDesign.{HalfbandDesign}
 use Rattle.laws.specs.Cases.{either_way}
+use Rattle.laws.specs.Results.{refused_never, same_answer}
 use Rattle.verdict.specs.Counted.{Counted}
 use Rattle.verdict.specs.declared.Reason.TheVariants as Reason
 
@@ -22,13 +23,6 @@ tap_is d k h = rw (lt-ltb k d.n h)
 -- the design that comes of a low-pass
 abbrev pub halved : Lowpass → ℕ → HalfbandDesign
 halved l n = record { lp = l; n = n; sum = divisor_of l n }
-
--- a refusal is no design
-never : (why : Refusal) (d : HalfbandDesign) → Err why ≡ Ok d → ⊥
-never why d g = let z : ◌≡◌ {A = ℕ} 0 1 = cc in omega arith
-
-same_record : (d e : HalfbandDesign) → Ok d ≡ Ok e → d ≡ e
-same_record d e q = cc
 
 module _ (beta : Float) (n : ℕ) where
   -- what the tests so far said
@@ -52,7 +46,7 @@ module _ (beta : Float) (n : ℕ) where
 
   -- a refusal, as an answer
   pub refuses : (why : Refusal) (rs : List Float) → halfband_of beta n ≡ Err why → PreparesHalfband (halfband_of beta n) (Err why) rs
-  refuses why rs h = record { is = sym h; raws = λ d g. absurd (never why d g) }
+  refuses why rs h = record { is = sym h; raws = λ d g. absurd (refused_never g) }
 
   -- a design, as an answer
   pub accepts : (l : Lowpass) (s : Float) (rs : List Float) → s ≡ divisor_of l n → Caches l rs → halfband_of beta n ≡ Ok (halved l n) → PreparesHalfband (halfband_of beta n) (Ok (record { lp = l; n = n; sum = s })) rs
@@ -60,7 +54,7 @@ module _ (beta : Float) (n : ℕ) where
       let r : HalfbandDesign = record { lp = l; n = n; sum = s } in
       record {
         is = ap (λ (z : Float). Ok (record { lp = l; n = n; sum = z })) e ∙ sym h;
-        raws = λ d q. subst (λ (z : HalfbandDesign). Caches z.lp rs) (same_record r d q) k;
+        raws = λ d q. subst (λ (z : HalfbandDesign). Caches z.lp rs) (same_answer q) k;
       }
 
 -- ---- what an accepted ticket tells
@@ -76,13 +70,13 @@ unfolding halfband_of
 accepted beta n d e = go (length_taken n) (quarter_of beta n) refl refl e
   where
     tested : (l : Lowpass) (c : Bool) → length_taken n ≡ true → quarter_of beta n ≡ Ok l → usable (divisor_of l n) ≡ c → cond c (Ok (halved l n)) (Err (Plain Reason.Divisor)) ≡ Ok d → AcceptedHalfband beta n d
-    tested l true a b c e = record { lowpass = l; long = a; quarter = b; divides = c; is = sym (same_record (halved l n) d e) }
-    tested l false a b c e = absurd (never (Plain Reason.Divisor) d e)
+    tested l true a b c e = record { lowpass = l; long = a; quarter = b; divides = c; is = sym (same_answer e) }
+    tested l false a b c e = absurd (refused_never e)
 
     go : (a : Bool) (q : Result Lowpass Refusal) → length_taken n ≡ a → quarter_of beta n ≡ q → cond a (halfband_in n q) (Err (Plain Reason.Count)) ≡ Ok d → AcceptedHalfband beta n d
     go true (Ok l) a b e = tested l (usable (divisor_of l n)) a b refl e
-    go true (Err why) a b e = absurd (never why d e)
-    go false q a b e = absurd (never (Plain Reason.Count) d e)
+    go true (Err why) a b e = absurd (refused_never e)
+    go false q a b e = absurd (refused_never e)
 
 -- ---- an accepted design has as many taps as it was asked for
 in_halfband : (n : ℕ) (d : Result Lowpass Refusal) → Counted n (outcome_of (halfband_in n d))

@@ -29,7 +29,7 @@ estimate a width = (a ⊖ fraction 795 100) ⊘ fraction 2285 1000 ⊘ (pi ⊗ w
 unfoldable pub odd_up : ℕ → ℕ
 odd_up n = cond (eqb (n % 2) 0) (n + 1) n
 
-unfoldable pub order_of : Float → Float → Float → Order
+unfoldable pub order_of : Float → Float → Float → Result Order Refusal
 unfolding estimate odd_up
 order_of ripple transition rate =
     let a = abs_of ripple in
@@ -37,21 +37,21 @@ order_of ripple transition rate =
     let num = estimate a width in
     cond (finite a)
     (cond (lt a (whole 8))
-    (Order.Refused (Plain Reason.Attenuation))
+    (Err (Plain Reason.Attenuation))
     (cond (positive width)
     (cond (lt (whole 16777216) num)
-    (Order.Refused (Range Reason.Transition (whole 0) rate transition))
-    (Order.Taps (odd_up (to_unsigned 64 (ceil_of num))) (beta_of a)))
-    (Order.Refused (Plain Reason.Transition))))
-    (Order.Refused (Plain Reason.Attenuation))
+    (Err (Range Reason.Transition (whole 0) rate transition))
+    (Ok (record { taps = odd_up (to_unsigned 64 (ceil_of num)); beta = beta_of a })))
+    (Err (Plain Reason.Transition))))
+    (Err (Plain Reason.Attenuation))
 
 -- ---- the half-band's: 3 mod 4
 unfoldable pub halfband_up : ℕ → ℕ
 halfband_up n = cond (eqb (n % 4) 1) (n + 2) n
 
-abbrev pub lengthened : Order → Result ℕ Refusal
-lengthened (Order.Taps n beta) = Ok (halfband_up n)
-lengthened (Order.Refused why) = Err why
+abbrev pub lengthened : Result Order Refusal → Result ℕ Refusal
+lengthened (Ok o) = Ok (halfband_up o.taps)
+lengthened (Err why) = Err why
 
 unfoldable pub halfband_len_of : Float → Float → Float → Result ℕ Refusal
 unfolding order_of

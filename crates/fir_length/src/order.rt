@@ -53,9 +53,10 @@ pub fn kaiserord(ripple: f64, transition: f64, rate: f64) -> Result<Order, Refus
     if num > 16777216.0 {
         return Err(Refusal::Range(Reason::Transition, 0.0, rate, transition));
     }
-    let n = odd_taps(num);
-    let beta = kaiser_beta(a);
-    Order::Taps(n, beta)
+    Ok(Order {
+        taps: odd_taps(num),
+        beta: kaiser_beta(a),
+    })
 }
 
 // The taps of a half-band filter: kaiserord's, and two more where that leaves 1 mod 4. The arguments stand in the order
@@ -63,15 +64,7 @@ pub fn kaiserord(ripple: f64, transition: f64, rate: f64) -> Result<Order, Refus
 pub fn halfband_len(transition: f64, attenuation: f64, rate: f64) -> Result<u64, Refusal>
     ensures { result ≡ halfband_len_of transition attenuation rate }
 {
-    let order = kaiserord(attenuation, transition, rate);
-    match order {
-        Order::Taps(n, _) => {
-            if n % 4 == 1 {
-                Ok(n + 2)
-            } else {
-                Ok(n)
-            }
-        }
-        Err(why) => Err(why),
-    }
+    let order = kaiserord(attenuation, transition, rate)?;
+    let n = order.taps;
+    Ok(if n % 4 == 1 { n + 2 } else { n })
 }

@@ -17,6 +17,7 @@ use Rattle.fir_lowpass.specs.Cached.{Caches, PreparesLowpass}
 use Rattle.fir_sinc.specs.declared.window.Window.{Window}
 use Rattle.fir_lowpass.specs.declared.lowpass.Lowpass.{Lowpass}
 use Rattle.laws.specs.Cases.{either_way}
+use Rattle.laws.specs.Results.{refused_never, same_answer}
 use Rattle.verdict.specs.Counted.{Counted}
 use Rattle.verdict.specs.declared.Reason.TheVariants as Reason
 
@@ -28,10 +29,6 @@ count_most n h = leb-true n 16777216 (both (ltb 0 n) (leb n 16777216) h).1
 pub count_least : (n : ℕ) → count_taken n ≡ true → 0 < n
 unfolding count_taken
 count_least n h = ltb-true 0 n (both (ltb 0 n) (leb n 16777216) h).0
-
--- a refusal is no design
-pub never : (why : Refusal) (l : Lowpass) → Err why ≡ Ok l → ⊥
-never why l g = let z : ◌≡◌ {A = ℕ} 0 1 = cc in omega arith
 
 -- ---- what the tests of the numbers so far said
 module _ (cutoff rate : Float) (w : Window) (n : ℕ) where
@@ -75,25 +72,19 @@ pub passed : (cutoff rate : Float) (w : Window) (n : ℕ) → judgement_of cutof
 unfolding judgement_of
 passed cutoff rate w n g = go (positive rate) (inside (cutoff ⊘ rate)) (count_taken n) (beta_taken w) (series_settle w n) refl refl refl refl refl g
   where
-    never_done : (why : Refusal) → Err why ≡ Ok tt → ⊥
-    never_done why g = let z : ◌≡◌ {A = ℕ} 0 1 = cc in omega arith
-
     go : (a b c d e : Bool) → positive rate ≡ a → inside (cutoff ⊘ rate) ≡ b → count_taken n ≡ c → beta_taken w ≡ d → series_settle w n ≡ e
         → cond a (cond b (cond c (cond d (cond e (Ok tt) (Err (Plain Reason.Unsettled))) (Err (Plain Reason.Attenuation))) (Err (Plain Reason.Count))) (Err (Range Reason.Frequency (whole 0) (rate ⊘ whole 2) cutoff))) (Err (Plain Reason.Rate)) ≡ Ok tt
         → Passed cutoff rate w n
     go true true true true true a b c d e g = record { rated = a; inner = b; counted = c; shaped = d; settles = e }
-    go true true true true false a b c d e g = absurd (never_done (Plain Reason.Unsettled) g)
-    go true true true false x a b c d e g = absurd (never_done (Plain Reason.Attenuation) g)
-    go true true false x y a b c d e g = absurd (never_done (Plain Reason.Count) g)
-    go true false x y z a b c d e g = absurd (never_done (Range Reason.Frequency (whole 0) (rate ⊘ whole 2) cutoff) g)
-    go false x y z u a b c d e g = absurd (never_done (Plain Reason.Rate) g)
+    go true true true true false a b c d e g = absurd (refused_never g)
+    go true true true false x a b c d e g = absurd (refused_never g)
+    go true true false x y a b c d e g = absurd (refused_never g)
+    go true false x y z a b c d e g = absurd (refused_never g)
+    go false x y z u a b c d e g = absurd (refused_never g)
 
 -- ---- the design, from what the test of the sum said
 abbrev pub designed : Float → Window → Float → ℕ → Lowpass
 designed fc w i0 n = record { n = n; fc = fc; window = w; i0 = i0; sum = divisor_of fc w i0 n }
-
-same_record : (l m : Lowpass) → Ok l ≡ Ok m → l ≡ m
-same_record l m e = cc
 
 module _ (fc : Float) (w : Window) (i0 : Float) (n : ℕ) where
   pub ready : usable (divisor_of fc w i0 n) ≡ true → design_of fc w i0 n ≡ Ok (designed fc w i0 n)
@@ -110,7 +101,7 @@ module _ (fc : Float) (w : Window) (i0 : Float) (n : ℕ) where
       let r : Lowpass = record { n = n; fc = fc; window = w; i0 = i0; sum = s } in
       record {
         is = ap (λ (z : Float). Ok (record { n = n; fc = fc; window = w; i0 = i0; sum = z })) e ∙ sym (ready u);
-        raws = λ l q. subst (λ (z : Lowpass). Caches z rs) (same_record r l q) k;
+        raws = λ l q. subst (λ (z : Lowpass). Caches z rs) (same_answer q) k;
       }
 
 -- ---- the low-pass, from what came of its numbers
@@ -130,7 +121,7 @@ pub prepares_as : {d e r : Result Lowpass Refusal} {rs : List Float} → d ≡ e
 prepares_as {d} {e} {r} {rs} p f = subst (λ (z : Result Lowpass Refusal). PreparesLowpass z r rs) p f
 
 pub prepares_refusal : (d : Result Lowpass Refusal) (why : Refusal) (rs : List Float) → d ≡ Err why → PreparesLowpass d (Err why) rs
-prepares_refusal d why rs e = record { is = sym e; raws = λ l g. absurd (never why l g) }
+prepares_refusal d why rs e = record { is = sym e; raws = λ l g. absurd (refused_never g) }
 
 -- ---- what an accepted ticket tells
 -- numbers that pass, and the design by them
@@ -143,9 +134,9 @@ unfolding lowpass_with design_of
 ready_with cutoff rate w i0 n l e = go (judgement_of cutoff rate w n) (usable (divisor_of (cutoff ⊘ rate) w i0 n)) refl e
   where
     go : (v : Result (Unit {0}) Refusal) (u : Bool) → judgement_of cutoff rate w n ≡ v → where_passed v (cond u (Ok (designed (cutoff ⊘ rate) w i0 n)) (Err (Plain Reason.Divisor))) ≡ Ok l → AcceptedWith cutoff rate w i0 n l
-    go (Ok tt) true v e = record { passes = passed cutoff rate w n v; is = sym (same_record _ l e) }
-    go (Ok tt) false v e = absurd (never (Plain Reason.Divisor) l e)
-    go (Err why) u v e = absurd (never why l e)
+    go (Ok tt) true v e = record { passes = passed cutoff rate w n v; is = sym (same_answer e) }
+    go (Ok tt) false v e = absurd (refused_never e)
+    go (Err why) u v e = absurd (refused_never e)
 
 pub record AcceptedLowpass (cutoff rate : Float) (w : Window) (n : ℕ) (l : Lowpass) : Type 0 where
   pub counted : count_taken n ≡ true

@@ -7,13 +7,14 @@ use Rattle.std.specs.Float.Ieee.{of_int, round, lt}
 use Rattle.std.specs.Float.Ieee.Fits.{div-fits}
 use Rattle.laws.specs.Binary64.{◌⊘◌, whole}
 use Rattle.laws.specs.PowersOfTwo.{over_one}
+use Rattle.laws.specs.Results.{refused_never}
 use Rattle.math_numbers.specs.Numbers.{positive}
 use Rattle.verdict.specs.declared.Refusal.TheVariants.{Plain}
 use Rattle.fir_sinc.specs.Windows.{norm_of}
 use Rattle.fir_sinc.specs.declared.window.Window.{Window}
 use Rattle.fir_sinc.specs.declared.window.Window.TheVariants.{Hann, Hamming, Blackman, Kaiser, Cosines}
 use Rattle.fir_lowpass.specs.Lowpass.{inside, judgement_of, lowpass_with, lowpass_of}
-use Rattle.fir_lowpass.proofs.LowpassLaws.{never, designed, Passed, ready_with}
+use Rattle.fir_lowpass.proofs.LowpassLaws.{designed, Passed, ready_with}
 use Rattle.fir_lowpass.specs.declared.lowpass.Lowpass.{Lowpass}
 use Rattle.fir_retune.specs.Retune.{new_cutoff_of, new_beta_of, where_kaiser, kept_of, verdict_of}
 use Rattle.fir_retune.specs.Operations.{Numbers, designed_from, Operation, NewCutoff, NewBeta, placed, comes_of, accepted_in, last_accepted, verdicts_from, turned_of, retune, verdicts_of}
@@ -51,11 +52,11 @@ placed_is t (NewCutoff cutoff rate) m e = e
 placed_is t (NewBeta beta) m e = go t.window e
   where
     go : (w : Window) → where_kaiser w (designed_from (placed t (NewBeta beta))) ≡ Ok m → designed_from (placed t (NewBeta beta)) ≡ Ok m
-    go Hann e = absurd (never (Plain Reason.Code) m e)
-    go Hamming e = absurd (never (Plain Reason.Code) m e)
-    go Blackman e = absurd (never (Plain Reason.Code) m e)
+    go Hann e = absurd (refused_never e)
+    go Hamming e = absurd (refused_never e)
+    go Blackman e = absurd (refused_never e)
     go (Kaiser b) e = e
-    go (Cosines c) e = absurd (never (Plain Reason.Code) m e)
+    go (Cosines c) e = absurd (refused_never e)
 
 -- so the record after a turn is designed from the numbers after it
 pub next : (t : Numbers) (l : Lowpass) (o : Operation) → designed_from t ≡ Ok l → designed_from (accepted_in t o (comes_of t o)) ≡ Ok (kept_of l (turned_of l o))

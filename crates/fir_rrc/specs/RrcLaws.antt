@@ -6,6 +6,7 @@ use Rattle.std.specs.Float.{binary64}
 use Rattle.laws.specs.Binary64.{◌⊗◌, ◌⊘◌, whole, fraction}
 use Rattle.laws.specs.Sums.{sum_to}
 use Rattle.laws.specs.Tests.{both}
+use Rattle.laws.specs.Results.{refused_never}
 use Rattle.math_sqrt.specs.Sqrt.{sqrt_of}
 use Rattle.verdict.specs.declared.Refusal.{Refusal}
 use Rattle.verdict.specs.declared.Refusal.TheVariants.{Range}
@@ -43,10 +44,6 @@ module _ (sps span : ℕ) where
   no_samples a = rw a
 
 -- ---- where there are taps, they and the samples are few
--- a refusal is no number
-never : (why : Refusal) (n : ℕ) → Err why ≢ Ok n
-never why n e = let z : ◌≡◌ {A = ℕ} 0 1 = cc in omega arith
-
 pub record Few (sps n : ℕ) : Type 0 where
   pub samples : sps ≤ 1024
   pub taps : n ≤ 32769
@@ -62,8 +59,8 @@ few sps span n e = go (sampled sps) (spanned span) (samples_most sps) (product_m
         let s : span * sps + 1 ≡ n = cc in
         let p = k refl refl in
         record { samples = h refl; taps = omega arith }
-    go true false h k e = absurd (never (Range Reason.Count (whole 4) (whole 32) (whole span)) n e)
-    go false b h k e = absurd (never (Range Reason.Count (whole 2) (whole 1024) (whole sps)) n e)
+    go true false h k e = absurd (refused_never e)
+    go false b h k e = absurd (refused_never e)
 
 -- ---- the design, by the number of taps
 module _ (b : Float) (sps span : ℕ) where

@@ -19,11 +19,11 @@ unfoldable pub cutoff_taken : Float → Float → Bool
 cutoff_taken cutoff most = lt (whole 0) cutoff && le cutoff most
 
 -- an order within the cap
-abbrev pub capped_of : Order → ℕ → Order
-capped_of (Order.Taps n beta) max = cond (ltb max n) (Order.Refused (Refusal.Cap n max)) (Order.Taps n beta)
-capped_of (Order.Refused why) max = Order.Refused why
+abbrev pub capped_of : Result Order Refusal → ℕ → Result Order Refusal
+capped_of (Ok o) max = cond (ltb max o.taps) (Err (Refusal.Cap o.taps max)) (Ok o)
+capped_of (Err why) max = Err why
 
-unfoldable pub spec_order_of : DesignSpec → Float → ℕ → Order
+unfoldable pub spec_order_of : DesignSpec → Float → ℕ → Result Order Refusal
 unfolding cutoff_taken
 spec_order_of spec rate max =
     let most = rate ⊘ whole 2 ⊖ spec.transition ⊘ whole 2 in
@@ -31,23 +31,23 @@ spec_order_of spec rate max =
     (cond (positive spec.transition)
     (cond (cutoff_taken spec.cutoff most)
     (capped_of (order_of spec.attenuation spec.transition rate) max)
-    (Order.Refused (Refusal.Range Reason.Frequency (whole 0) most spec.cutoff)))
-    (Order.Refused (Refusal.Range Reason.Transition (whole 0) (rate ⊘ whole 2) spec.transition)))
-    (Order.Refused (Refusal.Plain Reason.Rate))
+    (Err (Refusal.Range Reason.Frequency (whole 0) most spec.cutoff)))
+    (Err (Refusal.Range Reason.Transition (whole 0) (rate ⊘ whole 2) spec.transition)))
+    (Err (Refusal.Plain Reason.Rate))
 
 -- ---- what each answer makes of the order
-abbrev pub taps_in : Order → Result ℕ Refusal
-taps_in (Order.Taps n beta) = Ok n
-taps_in (Order.Refused why) = Err why
+abbrev pub taps_in : Result Order Refusal → Result ℕ Refusal
+taps_in (Ok o) = Ok o.taps
+taps_in (Err why) = Err why
 
-abbrev pub lowpass_in : DesignSpec → Float → Order → Result Lowpass Refusal
-lowpass_in spec rate (Order.Taps n beta) = lowpass_of spec.cutoff rate (Kaiser beta) n
-lowpass_in spec rate (Order.Refused why) = Err why
+abbrev pub lowpass_in : DesignSpec → Float → Result Order Refusal → Result Lowpass Refusal
+lowpass_in spec rate (Ok o) = lowpass_of spec.cutoff rate (Kaiser o.beta) o.taps
+lowpass_in spec rate (Err why) = Err why
 
 -- for a buffer of len elements
-abbrev pub design_in : DesignSpec → Float → ℕ → Order → Result Lowpass Refusal
-design_in spec rate len (Order.Taps n beta) = cond (eqb n len) (lowpass_of spec.cutoff rate (Kaiser beta) n) (Err (Refusal.Length n len))
-design_in spec rate len (Order.Refused why) = Err why
+abbrev pub design_in : DesignSpec → Float → ℕ → Result Order Refusal → Result Lowpass Refusal
+design_in spec rate len (Ok o) = cond (eqb o.taps len) (lowpass_of spec.cutoff rate (Kaiser o.beta) o.taps) (Err (Refusal.Length o.taps len))
+design_in spec rate len (Err why) = Err why
 
 unfoldable pub num_taps_of : DesignSpec → Float → ℕ → Result ℕ Refusal
 num_taps_of spec rate max = taps_in (spec_order_of spec rate max)

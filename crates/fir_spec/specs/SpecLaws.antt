@@ -9,9 +9,9 @@ use Rattle.fir_lowpass.proofs.LowpassLaws.{lowpass_count}
 use Rattle.fir_spec.specs.declared.DesignSpec.{DesignSpec}
 use Rattle.fir_spec.specs.Spec.{design_in, spec_order_of, spec_design_of}
 
-in_order : (spec : DesignSpec) (rate : Float) (len : ℕ) (order : Order) → Counted len (outcome_of (design_in spec rate len order))
-in_order spec rate len (Order.Taps n beta) = where_equal outcome_of len _ _ n len (λ e. rw (sym e) (lowpass_count spec.cutoff rate (Kaiser beta) n)) tt
-in_order spec rate len (Order.Refused why) = tt
+in_order : (spec : DesignSpec) (rate : Float) (len : ℕ) (order : Result Order Refusal) → Counted len (outcome_of (design_in spec rate len order))
+in_order spec rate len (Ok o) = where_equal outcome_of len _ _ o.taps len (λ e. rw (sym e) (lowpass_count spec.cutoff rate (Kaiser o.beta) o.taps)) tt
+in_order spec rate len (Err why) = tt
 
 pub spec_count : (spec : DesignSpec) (rate : Float) (max len : ℕ) → Counted len (outcome_of (spec_design_of spec rate max len))
 unfolding spec_design_of

@@ -22,6 +22,7 @@ use Rattle.iir_biquad.specs.declared.biquad.Response.{Response}
 use Rattle.iir_biquad.specs.declared.biquad.Response.TheVariants.{Lowpass, Highpass, Bandpass, Notch}
 use Rattle.iir_biquad.specs.declared.biquad.Biquad.{Biquad}
 use Rattle.laws.specs.Cases.{either_way}
+use Rattle.laws.specs.Results.{refused_never}
 use Rattle.verdict.specs.declared.Reason.TheVariants as Reason
 
 -- ---- a list stored into another, one element more
@@ -102,7 +103,7 @@ order_is order h =
     let t = both (leb 2 order) (leb order 8) h in
     record { least = leb-true 2 order t.0; most = leb-true order 8 t.1 }
 
--- ---- every quality is taken, so that a Butterworth filter's sections are never refused for it: the ten of even orders
+-- ---- every quality is taken, so that a Butterworth filter's sections are refused_never (sym for) it: the ten of even orders
 -- and the six of odd ones are evaluated
 sixteen : every 9 (λ order. every (order / 2) (λ i. quality_taken (quality_of order i))) ≡ true
 unfolding every quality_taken quality_of angle_of cos_of nested over fact floor_of abs_of floor_z as_float of_int of_bits round add sub mul div neg lt le
@@ -149,9 +150,6 @@ pub record Right (r : Response) (order : ℕ) (cutoff rate : Float) (len : ℕ) 
   pub count : len ≡ sections_of order * 5
   pub is : butterworth_of r order cutoff rate len ≡ Outcome.Designed len (whole 0) (coef_at r order cutoff rate)
 
-never : (why : Refusal) → (Ok tt) ≡ Err why → ⊥
-never why e = let z : ◌≡◌ {A = ℕ} 0 1 = cc in omega arith
-
 pub right : (r : Response) (order : ℕ) (cutoff rate : Float) (len : ℕ) → (Ok tt) ≡ answered (butterworth_of r order cutoff rate len) → Right r order cutoff rate len
 unfolding butterworth_of
 right r order cutoff rate len e =
@@ -169,12 +167,12 @@ right r order cutoff rate len e =
 
     go : (a b c d : Bool) → (b ≡ true → OrderIs order) → (c ≡ true → len ≡ n) → (Ok tt) ≡ answered (by a b c d) → OrderIs order × (len ≡ n) × (by a b c d ≡ is)
     go true true true true p q e = (p refl, q refl, refl)
-    go true true true false p q e = absurd (never _ e)
-    go true true false d p q e = absurd (never _ e)
-    go true false c d p q e = absurd (never _ e)
-    go false b c d p q e = absurd (never _ e)
+    go true true true false p q e = absurd (refused_never (sym e))
+    go true true false d p q e = absurd (refused_never (sym e))
+    go true false c d p q e = absurd (refused_never (sym e))
+    go false b c d p q e = absurd (refused_never (sym e))
 
 -- ---- one that is refused
 pub turned : (why : Refusal) (o : Outcome) → Err why ≡ answered o → o ≡ Outcome.Refused why
-turned why (Outcome.Designed n sum tap) e = absurd (never why (sym e))
+turned why (Outcome.Designed n sum tap) e = absurd (refused_never (sym (sym e)))
 turned why (Outcome.Refused other) e = cc

@@ -1,4 +1,5 @@
 pub mod Cases
+pub mod Results
 pub mod Numbers
 pub mod Tests
 pub mod Filled

@@ -6,8 +6,7 @@ use Rattle.std.proofs.lemmas.List.{take-append-le, drop-append-le}
 use Rattle.wire.specs.Bytes.{number_of}
 use Rattle.ticket_kinds.specs.Kinds.{field_count, ticket_of, window_taken}
 use Rattle.ticket_kinds.specs.declared.Ticket.{Ticket}
-use Rattle.ticket_card.specs.declared.Reading.TheVariants.{Read}
-use Rattle.ticket_card.specs.Card.{fields_in, following, record_length, length_in, kind_in, read_of}
+use Rattle.ticket_card.specs.Card.{fields_in, following, record_length, length_in, kind_in, read_of, found}
 use Rattle.ticket_card.specs.Readings.{numbers_in, Begins, read_begins, begins_read, read_there}
 
 -- what follows the fields doesn't matter
@@ -69,11 +68,11 @@ module _ (p s : List ℕ) where
       }
 
 -- bytes behind it
-pub read_more : (d s : List ℕ) (t : Ticket) (k : ℕ) → read_of d ≡ Read t k → read_of (d ++ s) ≡ Read t k
+pub read_more : (d s : List ℕ) (t : Ticket) (k : ℕ) → read_of d ≡ found t k → read_of (d ++ s) ≡ found t k
 read_more d s t k e = begins_read (d ++ s) t k (begins_more d s t k (read_begins d t k e))
 
 -- and other bytes in their place
-pub read_only : (d s : List ℕ) (t : Ticket) (k : ℕ) → read_of d ≡ Read t k → read_of (take k d ++ s) ≡ Read t k
+pub read_only : (d s : List ℕ) (t : Ticket) (k : ℕ) → read_of d ≡ found t k → read_of (take k d ++ s) ≡ found t k
 read_only d s t k e =
     let b = read_begins d t k e in
     let w : Begins (take k d ++ drop k d) t k = subst (λ (l : List ℕ). Begins l t k) (sym (take-append-drop k d)) b in

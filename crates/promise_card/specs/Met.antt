@@ -12,8 +12,7 @@ use Rattle.ticket_kinds.specs.Kinds.{field_count, window_taken, ticket_of}
 use Rattle.ticket_kinds.specs.declared.TicketWindow.TheVariants.{Hann}
 use Rattle.ticket_kinds.specs.declared.Ticket.{Ticket}
 use Rattle.ticket_kinds.specs.declared.Ticket.TheVariants.{Lowpass}
-use Rattle.ticket_card.specs.declared.Reading.TheVariants.{Read}
-use Rattle.ticket_card.specs.Card.{fields_in, read_of}
+use Rattle.ticket_card.specs.Card.{fields_in, read_of, found}
 use Rattle.ticket_design.specs.Design.{float, ticket_outcome, ticket_bytes}
 use Rattle.c_lowpass.specs.Lowpass.{lowpass_bytes}
 use Rattle.promise_totals.proofs.WrittenLaws.{of_writes}
@@ -31,7 +30,7 @@ abbrev five : Ticket
 five = Lowpass (record { cutoff = quarter; rate = one; window = Hann; count = 5 })
 
 -- it is read from 46 bytes
-pub five_read : read_of (bytes_of 4 42 ++ (bytes_of 2 1 ++ (bytes_of 8 quarter ++ (bytes_of 8 one ++ (bytes_of 8 0 ++ (bytes_of 8 0 ++ bytes_of 8 5)))))) ≡ Read five 46
+pub five_read : read_of (bytes_of 4 42 ++ (bytes_of 2 1 ++ (bytes_of 8 quarter ++ (bytes_of 8 one ++ (bytes_of 8 0 ++ (bytes_of 8 0 ++ bytes_of 8 5)))))) ≡ found five 46
 unfolding read_of field_count number_of bytes_of fields_in window_taken ticket_of
 five_read = refl
 

@@ -4,8 +4,7 @@ use Rattle.std.specs.Prelude.{ℕ, ◌<◌, ◌≡◌, List, length, drop, Err, 
 use Rattle.ticket_kinds.specs.Kinds.{numbers_of, formed_of}
 use Rattle.ticket_kinds.specs.declared.Ticket.{Ticket}
 use Rattle.ticket_card.specs.declared.Reading.{Reading}
-use Rattle.ticket_card.specs.declared.Reading.TheVariants.{Read, Refused}
-use Rattle.ticket_card.specs.Card.{read_of}
+use Rattle.ticket_card.specs.Card.{read_of, found}
 use Rattle.ticket_card.specs.Cards.{CardReads}
 use Rattle.c_card.specs.Cards.{no_ticket, told_of}
 use Rattle.c_card.specs.declared.reading.TicketRead.{TicketRead}
@@ -13,15 +12,15 @@ use Rattle.c_card.specs.declared.reading.CardChecked.{CardChecked}
 use Rattle.promise_refusals.specs.Demand.{Numbered}
 use Rattle.verdict.specs.declared.Refusal.{Refusal}
 
-abbrev pub of_reading : Reading → Result (Unit {0}) Refusal
-of_reading (Read t k) = Ok tt
-of_reading (Refused why) = Err why
+abbrev pub of_reading : Result Reading Refusal → Result (Unit {0}) Refusal
+of_reading (Ok r) = Ok tt
+of_reading (Err why) = Err why
 
 -- a ticket that the bytes s hold: its numbers are those told, which are taken for that very ticket again, and the
 -- record takes as many bytes as told
 pub record Held (s : List ℕ) (r : TicketRead) : Type 0 where
   pub ticket : Ticket
-  pub read : read_of s ≡ Read ticket r.report.count
+  pub read : read_of s ≡ found ticket r.report.count
   pub numbers : r.ticket ≡ numbers_of ticket
   pub again : formed_of r.ticket ≡ Ok ticket
 

@@ -10,8 +10,7 @@ use Rattle.ticket_kinds.specs.KindsLaws.{formed_back}
 use Rattle.ticket_kinds.specs.declared.Ticket.{Ticket}
 use Rattle.ticket_kinds.specs.declared.TicketWindow.{TicketWindow}
 use Rattle.ticket_card.specs.declared.Reading.{Reading}
-use Rattle.ticket_card.specs.declared.Reading.TheVariants.{Read, Refused}
-use Rattle.ticket_card.specs.Card.{fields_in, following, record_length, length_in, kind_in, read_of}
+use Rattle.ticket_card.specs.Card.{fields_in, following, record_length, length_in, kind_in, read_of, found}
 use Rattle.ticket_card.specs.Cards.{CardReads}
 use Rattle.ticket_card.specs.Readings.{numbers_in, read_begins}
 use Rattle.c_card.specs.Cards.{no_ticket, told_of, ChecksCard}
@@ -25,7 +24,7 @@ use Rattle.promise_card.specs.Whole.{whole_card, broken_card}
 use Rattle.verdict.specs.declared.Refusal.{Refusal}
 
 -- ---- every refusal of the reader has one of the numbers
-abbrev ReadListed : Reading → Type 0
+abbrev ReadListed : Result Reading Refusal → Type 0
 ReadListed r = Listed (of_reading r)
 
 pub read_listed : (d : List ℕ) → ReadListed (read_of d)
@@ -60,14 +59,14 @@ coded k xs =
     let P : Ticket → Type 0 = λ t. T (has_code t) in
     either_way P (eqb k 1) _ _ (window_coded (get_or xs 2 0) (get_or xs 3 0)) (either_way P (eqb k 2) _ _ tt (either_way P (eqb k 3) _ _ tt (either_way P (eqb k 4) _ _ tt (either_way P (eqb k 5) _ _ tt tt))))
 
-pub read_coded : (d : List ℕ) (t : Ticket) (k : ℕ) → read_of d ≡ Read t k → T (has_code t)
+pub read_coded : (d : List ℕ) (t : Ticket) (k : ℕ) → read_of d ≡ found t k → T (has_code t)
 read_coded d t k e = subst (λ (t : Ticket). T (has_code t)) (read_begins d t k e).ticket (coded (kind_in d) (numbers_in d))
 
 -- ---- `pel_read_ticket`
-reading_heard : (r : Reading) → (told_of r).report.number ≡ (done_report 0 (of_reading r)).number
+reading_heard : (r : Result Reading Refusal) → (told_of r).report.number ≡ (done_report 0 (of_reading r)).number
 unfolding accepted_of
-reading_heard (Read t k) = refl
-reading_heard (Refused why) = refl
+reading_heard (Ok r) = refl
+reading_heard (Err why) = refl
 
 pub read_or_none : (s : List ℕ) {r : TicketRead} → r ≡ told_of (read_of s) → ReadOrNone s r
 unfolding accepted_of
@@ -77,13 +76,13 @@ read_or_none s {r} e = subst (ReadOrNone s) (sym e) (record {
   none = zeroed (read_of s);
 })
   where
-    these : (r : Reading) → read_of s ≡ r → (told_of r).report.number ≡ 0 → Held s (told_of r)
-    these (Read t k) g z = record { ticket = t; read = g; numbers = refl; again = formed_back t (read_coded s t k g) }
-    these (Refused why) g z = absurd (never_zero (report_of why).number (subst ReadListed g (read_listed s)) z)
+    these : (r : Result Reading Refusal) → read_of s ≡ r → (told_of r).report.number ≡ 0 → Held s (told_of r)
+    these (Ok r) g z = record { ticket = t; read = g; numbers = refl; again = formed_back t (read_coded s t k g) }
+    these (Err why) g z = absurd (never_zero (report_of why).number (subst ReadListed g (read_listed s)) z)
 
-    zeroed : (r : Reading) → ((told_of r).report.number ≡ 0 → ⊥) → (told_of r).ticket ≡ no_ticket
-    zeroed (Read t k) h = absurd (h refl)
-    zeroed (Refused why) h = refl
+    zeroed : (r : Result Reading Refusal) → ((told_of r).report.number ≡ 0 → ⊥) → (told_of r).ticket ≡ no_ticket
+    zeroed (Ok r) h = absurd (h refl)
+    zeroed (Err why) h = refl
 
 -- ---- `pel_check_card`
 ended_listed : {d : List ℕ} {ts : List Ticket} {at : ℕ} (v : Result (Unit {0}) Refusal) → CardReads d ts at v → Listed v
@@ -114,4 +113,4 @@ checked_card s {r} c =
     broken n (Ok tt) reads e h = absurd (h refl)
     broken n (Err why) reads e h =
         let b = broken_card why reads refl in
-        (b.0, ap (λ (x : Reading). (told_of x).report) b.1 ∙ sym e)
+        (b.0, ap (λ (x : Result Reading Refusal). (told_of x).report) b.1 ∙ sym e)

@@ -4,8 +4,7 @@ use Rattle.verdict.specs.declared.Report.{Report}
 use Rattle.wire.specs.Bytes.{float_bytes}
 use Rattle.wire.specs.Writes.{Writes}
 use Rattle.ticket_kinds.specs.declared.Ticket.{Ticket}
-use Rattle.ticket_card.specs.declared.Reading.TheVariants.{Read}
-use Rattle.ticket_card.specs.Card.{read_of}
+use Rattle.ticket_card.specs.Card.{read_of, found}
 use Rattle.ticket_design.specs.Design.{ticket_bytes}
 use Rattle.promise_totals.specs.Written.{Totals}
 use Rattle.promise_totals.specs.Filter.{Filters}
@@ -30,4 +29,4 @@ pub record TicketMirrors (kind : ℕ) (r : Report) (after : List ℕ) : Type 0 w
 
 -- a ticket that the bytes s hold was designed into a buffer: what is told and left is what comes of that ticket
 abbrev pub DesignsRead : List ℕ → List ℕ → Report → List ℕ → Type 0
-DesignsRead s before r after = (t : Ticket) (k : ℕ) → read_of s ≡ Read t k → Writes float_bytes (ticket_bytes t (length before)) before r after
+DesignsRead s before r after = (t : Ticket) (k : ℕ) → read_of s ≡ found t k → Writes float_bytes (ticket_bytes t (length before)) before r after

@@ -158,5 +158,5 @@ module _ (n : Numbers) {before after : List ℕ} {r : Report} (w : Writes float_
 -- ---- what was read is designed as the ticket that the bytes hold
 pub designs_read : (s : List ℕ) {before after : List ℕ} {r : Report} {told : TicketRead} → told ≡ told_of (read_of s) → Writes float_bytes (bytes_for (formed_of told.ticket) (length before)) before r after → DesignsRead s before r after
 designs_read s {before} {after} {r} {told} e w t k f =
-    let numbers : told.ticket ≡ numbers_of t = ap (λ (x : TicketRead). x.ticket) e ∙ ap (λ (x : Reading). (told_of x).ticket) f in
+    let numbers : told.ticket ≡ numbers_of t = ap (λ (x : TicketRead). x.ticket) e ∙ ap (λ (x : Result Reading Refusal). (told_of x).ticket) f in
     writes_same (ap (λ (x : Result Ticket Refusal). bytes_for x (length before)) (ap formed_of numbers ∙ formed_back t (read_coded s t k f))) w

@@ -6,12 +6,11 @@ use Rattle.verdict.specs.declared.Refusal.{Refusal}
 use Rattle.ticket_kinds.specs.KindsLaws.{counts}
 use Rattle.ticket_kinds.specs.declared.Ticket.{Ticket}
 use Rattle.ticket_card.specs.declared.Reading.{Reading}
-use Rattle.ticket_card.specs.declared.Reading.TheVariants.{Read, Refused}
-use Rattle.ticket_card.specs.Card.{kind_in, read_of}
+use Rattle.ticket_card.specs.Card.{kind_in, read_of, found}
 use Rattle.ticket_card.specs.Cards.{CardReads, ends, breaks, next}
 use Rattle.ticket_card.specs.Readings.{read_begins, read_there, read_some}
 
-never : {why : Refusal} {t : Ticket} {k : ℕ} → Refused why ≡ Read t k → ⊥
+never : {why : Refusal} {t : Ticket} {k : ℕ} → Err why ≡ found t k → ⊥
 never e = let z : ◌≡◌ {A = ℕ} 0 1 = cc in omega arith
 
 -- ---- one way
@@ -21,7 +20,7 @@ pub record Same (ts us : List Ticket) (a b : ℕ) (v w : Result (Unit {0}) Refus
   pub place : a ≡ b
   pub ended : v ≡ w
 
-empty : (d : List ℕ) (t : Ticket) (k : ℕ) → length d ≡ 0 → read_of d ≡ Read t k → ⊥
+empty : (d : List ℕ) (t : Ticket) (k : ℕ) → length d ≡ 0 → read_of d ≡ found t k → ⊥
 empty d t k z e = omega (arith, read_there d t k e, read_some d t k e)
 
 pub one_reading : {d : List ℕ} {ts us : List Ticket} {a b : ℕ} {v w : Result (Unit {0}) Refusal} → CardReads d ts a v → CardReads d us b w → Same ts us a b v w
@@ -31,7 +30,7 @@ one_reading (ends z) (next e r) = absurd (empty _ _ _ z e)
 one_reading (breaks l e) (ends z) = absurd (omega arith)
 one_reading (breaks l e) (breaks m f) = record { tickets = refl; place = refl; ended = ap Err (why (sym e ∙ f)) }
   where
-    why : {x y : Refusal} → Refused x ≡ Refused y → x ≡ y
+    why : {x y : Refusal} → Err x ≡ Err y → x ≡ y
     why h = cc
 one_reading (breaks l e) (next f r) = absurd (never (sym e ∙ f))
 one_reading (next e r) (ends z) = absurd (empty _ _ _ z e)
@@ -41,10 +40,10 @@ one_reading {d} {a = a} {b = b} {v = v} {w = w} (next {t = t} {k = k} {ts = ts} 
     let h : Same ts us p q v w = one_reading r (subst (λ (j : ℕ). CardReads (drop j d) us q w) (sym (taken same)) s) in
     record { tickets = ap (λ (x : Ticket). x ∷ ts) (ticket same) ∙ ap (λ (l : List Ticket). u ∷ l) h.tickets; place = omega (arith, taken same, h.place); ended = h.ended }
   where
-    ticket : {x y : Ticket} {i j : ℕ} → Read x i ≡ Read y j → x ≡ y
+    ticket : {x y : Ticket} {i j : ℕ} → found x i ≡ found y j → x ≡ y
     ticket h = cc
 
-    taken : {x y : Ticket} {i j : ℕ} → Read x i ≡ Read y j → i ≡ j
+    taken : {x y : Ticket} {i j : ℕ} → found x i ≡ found y j → i ≡ j
     taken h = cc
 
 -- ---- reading ends, for every list of bytes
@@ -58,10 +57,10 @@ within : (n : ℕ) (d : List ℕ) → length d ≤ n → Reads d
 within zero d h = record { held = []; place = 0; ended = Ok tt; reads = ends {d = d} (omega arith) }
 within (suc n) d h = go (length d) refl (read_of d) refl (λ l m. within n l m)
   where
-    go : (m : ℕ) → length d ≡ m → (r : Reading) → read_of d ≡ r → ((l : List ℕ) → length l ≤ n → Reads l) → Reads d
+    go : (m : ℕ) → length d ≡ m → (r : Result Reading Refusal) → read_of d ≡ r → ((l : List ℕ) → length l ≤ n → Reads l) → Reads d
     go zero z r e shorter = record { held = []; place = 0; ended = Ok tt; reads = ends {d = d} z }
-    go (suc m) z (Refused why) e shorter = record { held = []; place = 0; ended = Err why; reads = breaks {d = d} (omega (arith, z)) e }
-    go (suc m) z (Read t k) e shorter =
+    go (suc m) z (Err why) e shorter = record { held = []; place = 0; ended = Err why; reads = breaks {d = d} (omega (arith, z)) e }
+    go (suc m) z (found t k) e shorter =
         let rest = shorter (drop k d) (omega (arith, length-drop k d, read_some d t k e)) in
         record { held = t ∷ rest.held; place = k + rest.place; ended = rest.ended; reads = next e rest.reads }
 
@@ -71,22 +70,13 @@ card_reads d = within (length d) d (omega arith)
 -- ---- where it ends: at the end of the card, or at bytes that are refused
 pub whole_card : {d : List ℕ} {ts : List Ticket} {at : ℕ} {v : Result (Unit {0}) Refusal} → CardReads d ts at v → v ≡ Ok tt → at ≡ length d
 whole_card (ends z) e = sym z
-whole_card (breaks l r) e = absurd (unlike e)
-  where
-    unlike : {why : Refusal} → Err why ≡ Ok tt → ⊥
-    unlike h = let z : ◌≡◌ {A = ℕ} 0 1 = cc in omega arith
+whole_card (breaks l r) e = absurd (refused_never e)
 whole_card {d} (next {t = t} {k = k} r rest) e = omega (arith, whole_card rest e, length-drop k d, read_there d t k r)
 
-pub broken_card : {d : List ℕ} {ts : List Ticket} {at : ℕ} {v : Result (Unit {0}) Refusal} (why : Refusal) → CardReads d ts at v → v ≡ Err why → (at < length d) × (read_of (drop at d) ≡ Refused why)
-broken_card why (ends z) e = absurd (unlike e)
+pub broken_card : {d : List ℕ} {ts : List Ticket} {at : ℕ} {v : Result (Unit {0}) Refusal} (why : Refusal) → CardReads d ts at v → v ≡ Err why → (at < length d) × (read_of (drop at d) ≡ Err why)
+broken_card why (ends z) e = absurd (refused_never (sym e))
+broken_card {d} why (breaks {why = x} l r) e = (l, ap read_of (drop_none d) ∙ r ∙ ap Err (same_refusal e))
   where
-    unlike : {why : Refusal} → (Ok tt) ≡ Err why → ⊥
-    unlike h = let z : ◌≡◌ {A = ℕ} 0 1 = cc in omega arith
-broken_card {d} why (breaks {why = x} l r) e = (l, ap read_of (drop_none d) ∙ r ∙ ap Refused (same e))
-  where
-    same : {x y : Refusal} → Err x ≡ Err y → x ≡ y
-    same h = cc
-
     drop_none : (d : List ℕ) → drop 0 d ≡ d
     drop_none [] = refl
     drop_none (b ∷ d) = refl
@@ -95,7 +85,7 @@ broken_card {d} why (next {t = t} {k = k} {at = p} r rest) e =
     (omega (arith, h.0, length-drop k d, read_there d t k r), ap read_of (sym (drop-drop p k d)) ∙ h.1)
 
 -- ---- each record takes from 22 to 46 bytes
-takes_some : (d : List ℕ) (t : Ticket) (k : ℕ) → read_of d ≡ Read t k → (22 ≤ k) × (k ≤ 46)
+takes_some : (d : List ℕ) (t : Ticket) (k : ℕ) → read_of d ≡ found t k → (22 ≤ k) × (k ≤ 46)
 takes_some d t k e =
     let b = read_begins d t k e in
     let few = counts (kind_in d) b.known in

@@ -8,8 +8,7 @@ use Rattle.ticket_kinds.specs.Kinds.{field_count, window_taken, ticket_of}
 use Rattle.ticket_kinds.specs.declared.TicketWindow.TheVariants.{Hann}
 use Rattle.ticket_kinds.specs.declared.Ticket.{Ticket}
 use Rattle.ticket_kinds.specs.declared.Ticket.TheVariants.{Lowpass, Halfband}
-use Rattle.ticket_card.specs.declared.Reading.TheVariants.{Read}
-use Rattle.ticket_card.specs.Card.{fields_in, following, refused, read_of}
+use Rattle.ticket_card.specs.Card.{fields_in, following, refused, read_of, found}
 use Rattle.ticket_card.specs.Cards.{CardReads, breaks, next}
 use Rattle.verdict.specs.declared.Reason.TheVariants as Reason
 
@@ -51,7 +50,7 @@ window_four_short = refl
 abbrev hann : Ticket
 hann = Lowpass (record { cutoff = 1; rate = 2; window = Hann; count = 5 })
 
-unused_beta : read_of (bytes_for 1 (1 ∷ 2 ∷ 0 ∷ 9 ∷ 5 ∷ [])) ≡ Read hann 46
+unused_beta : read_of (bytes_for 1 (1 ∷ 2 ∷ 0 ∷ 9 ∷ 5 ∷ [])) ≡ found hann 46
 unfolding read_of field_count number_of bytes_of field_bytes fields_in window_taken ticket_of
 unused_beta = refl
 
@@ -59,7 +58,7 @@ unused_beta = refl
 abbrev payload : Ticket
 payload = Halfband (record { beta = 9218868437227405313; count = 5 })
 
-payload_kept : read_of (bytes_for 3 (9218868437227405313 ∷ 5 ∷ [])) ≡ Read payload 22
+payload_kept : read_of (bytes_for 3 (9218868437227405313 ∷ 5 ∷ [])) ≡ found payload 22
 unfolding read_of field_count number_of bytes_of field_bytes fields_in window_taken ticket_of
 payload_kept = refl
 

@@ -4,6 +4,7 @@ use Rattle.std.proofs.Common.{sym, ◌∙◌, subst, inl, inr, arith, eqb-true, 
 use Rattle.std.specs.Float.Ieee.Bits.{is_true}
 use Rattle.std.specs.Float.Ieee.Fits.{and_l, and_r}
 use Rattle.laws.specs.Cases.{either}
+use Rattle.laws.specs.Results.{refused_never}
 use Rattle.verdict.specs.Numbers.{refusals, bad_length}
 use Rattle.verdict.specs.Report.{report_of, accepted_of}
 use Rattle.verdict.specs.Reports.{length_report, outcome_report, done_report}
@@ -50,14 +51,11 @@ between k l = go (leb 1 k && leb k 14) (within 1 14 k) (one_of is_known k refusa
 pub never_zero : (k : ℕ) → IsRefusal k → k ≡ 0 → ⊥
 never_zero k l e = either (between k l) (λ r. omega (arith, r.0, e)) (λ r. omega (arith, r.0, e))
 
-never_refused : (why : Refusal) → Err why ≡ Ok tt → ⊥
-never_refused why e = let z : ◌≡◌ {A = ℕ} 0 1 = cc in omega arith
-
 pub numbered : (v : Result (Unit {0}) Refusal) {k : ℕ} → k ≡ heard v → Listed v → Numbered v k
 numbered (Ok tt) {k} e l = record { number = inl e; accepted = λ d. e; only = λ z. refl }
 numbered (Err why) {k} e l = record {
   number = inr (subst IsRefusal (sym e) l);
-  accepted = λ d. absurd (never_refused why d);
+  accepted = λ d. absurd (refused_never d);
   only = λ z. absurd (never_zero (report_of why).number l (sym e ∙ z));
 }
 
@@ -81,10 +79,10 @@ unfolding accepted_of
 length_heard (Ok n) = refl
 length_heard (Err why) = refl
 
-pub order_heard : (o : Order) → (order_report o).number ≡ heard (of_order o)
+pub order_heard : (o : Result Order Refusal) → (order_report o).number ≡ heard (of_order o)
 unfolding accepted_of
-order_heard (Order.Taps n beta) = refl
-order_heard (Order.Refused why) = refl
+order_heard (Ok o) = refl
+order_heard (Err why) = refl
 
 pub delay_heard : (d : Result ℕ Refusal) → (delay_report d).number ≡ heard (of_delay d)
 unfolding accepted_of

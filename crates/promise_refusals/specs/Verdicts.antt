@@ -13,9 +13,9 @@ abbrev pub of_length : Result ℕ Refusal → Result (Unit {0}) Refusal
 of_length (Ok n) = Ok tt
 of_length (Err why) = Err why
 
-abbrev pub of_order : Order → Result (Unit {0}) Refusal
-of_order (Order.Taps n beta) = Ok tt
-of_order (Order.Refused why) = Err why
+abbrev pub of_order : Result Order Refusal → Result (Unit {0}) Refusal
+of_order (Ok o) = Ok tt
+of_order (Err why) = Err why
 
 abbrev pub of_delay : Result ℕ Refusal → Result (Unit {0}) Refusal
 of_delay (Ok n) = Ok tt

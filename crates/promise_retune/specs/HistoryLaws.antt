@@ -3,6 +3,7 @@
 use Rattle.std.specs.Prelude.{ℕ, ◌-◌, ◌/◌, ◌%◌, ◌≡◌, refl, Bool, true, false, cond, List, [], ◌∷◌, T, eqb, length, Float, Err, None, Ok, Option, Result, Some}
 use Rattle.std.proofs.Common.{sym, ap, ◌∙◌, subst}
 use Rattle.laws.specs.Binary64.{◌⊘◌}
+use Rattle.laws.specs.Results.{refused_never}
 use Rattle.verdict.specs.Report.{report_of, accepted_of}
 use Rattle.verdict.specs.Outcome.{answered}
 use Rattle.verdict.specs.Outcome as Outcome
@@ -15,7 +16,7 @@ use Rattle.fir_sinc.specs.Windows.{norm_of}
 use Rattle.fir_sinc.specs.declared.window.Window.{Window}
 use Rattle.fir_sinc.specs.declared.window.Window.TheVariants.{Hann, Hamming, Blackman, Kaiser, Cosines}
 use Rattle.fir_lowpass.specs.Lowpass.{lowpass_of, outcome_of}
-use Rattle.fir_lowpass.proofs.LowpassLaws.{never, designed, ready_is}
+use Rattle.fir_lowpass.proofs.LowpassLaws.{designed, ready_is}
 use Rattle.fir_lowpass.specs.declared.lowpass.Lowpass.{Lowpass}
 use Rattle.fir_retune.specs.Retune.{new_cutoff_of, where_kaiser, new_beta_of}
 use Rattle.fir_retune.specs.Operations.{Numbers, designed_from, Operation, NewCutoff, NewBeta, placed, accepted_in}
@@ -113,19 +114,19 @@ fits_is n len x m e = go (eqb (len % 8) 0) (eqb n (len / 8)) e
   where
     go : (a b : Bool) → cond a (cond b x (Err (Length n (len / 8)))) (Err (Length (len - len % 8) len)) ≡ Ok m → x ≡ Ok m
     go true true e = e
-    go true false e = absurd (never (Length n (len / 8)) m e)
-    go false b e = absurd (never (Length (len - len % 8) len) m e)
+    go true false e = absurd (refused_never e)
+    go false b e = absurd (refused_never e)
 
 accepted_is : (t : Numbers) (o : Operation) (len : ℕ) (m : Lowpass) → comes_with t o len ≡ Ok m → designed_from (placed t o) ≡ Ok m
 accepted_is t (NewCutoff cutoff rate) len m e = fits_is t.n len _ m e
 accepted_is t (NewBeta beta) len m e = go t.window e
   where
     go : (w : Window) → where_kaiser w (fits_in t.n len (designed_from (placed t (NewBeta beta)))) ≡ Ok m → designed_from (placed t (NewBeta beta)) ≡ Ok m
-    go Hann e = absurd (never (Plain Reason.Code) m e)
-    go Hamming e = absurd (never (Plain Reason.Code) m e)
-    go Blackman e = absurd (never (Plain Reason.Code) m e)
+    go Hann e = absurd (refused_never e)
+    go Hamming e = absurd (refused_never e)
+    go Blackman e = absurd (refused_never e)
     go (Kaiser b) e = fits_is t.n len _ m e
-    go (Cosines c) e = absurd (never (Plain Reason.Code) m e)
+    go (Cosines c) e = absurd (refused_never e)
 
 -- an operation's numbers have a window with a code, where those before it had
 coded_next : (t : Numbers) (o : Operation) → T (has_code t.window) → T (has_code (placed t o).window)
@@ -192,7 +193,7 @@ whole_is len x m e = go (eqb (len % 8) 0) e
   where
     go : (a : Bool) → cond a x (Err (Length (len - len % 8) len)) ≡ Ok m → x ≡ Ok m
     go true e = e
-    go false e = absurd (never (Length (len - len % 8) len) m e)
+    go false e = absurd (refused_never e)
 
 -- its report and its bytes are those of `pel_lowpass`
 pub as_lowpass : (cutoff rate : Float) (window : ℕ) (beta : Float) (len : ℕ) → outcome_of (lowpass_for cutoff rate window beta len) ≡ lowpass_bytes cutoff rate (window_of window beta) len

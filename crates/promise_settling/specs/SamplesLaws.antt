@@ -5,6 +5,7 @@ use Rattle.laws.specs.Binary64.{whole}
 use Rattle.laws.specs.Every.{every, every_at}
 use Rattle.laws.specs.Tests.{both}
 use Rattle.laws.specs.Under.{natural}
+use Rattle.laws.specs.Results.{refused_never}
 use Rattle.math_bessel.specs.Series.{series_of, settled}
 use Rattle.math_settling.specs.Steps.{one_natural}
 use Rattle.verdict.specs.Report.{report_of, accepted_of}
@@ -47,13 +48,10 @@ passes : (beta : Float) (symmetry : Symmetry) (n : ℕ) → judgement_of (Kaiser
 unfolding judgement_of series_settle
 passes beta symmetry n e = go (shape_taken (Kaiser beta)) (kaiser_settles beta (divisor_of symmetry n) n) e
   where
-    never : (why : Refusal) → Err why ≡ Ok tt → ⊥
-    never why g = let z : ◌≡◌ {A = ℕ} 0 1 = cc in omega arith
-
     go : (a b : Bool) → cond a (cond b (Ok tt) (Err (Plain Reason.Unsettled))) (Err (Plain Reason.Attenuation)) ≡ Ok tt → b ≡ true
     go true true e = refl
-    go true false e = absurd (never (Plain Reason.Unsettled) e)
-    go false b e = absurd (never (Plain Reason.Attenuation) e)
+    go true false e = absurd (refused_never e)
+    go false b e = absurd (refused_never e)
 
 -- ---- an answer
 pub finite_samples : (s : Sample) (beta : Float) (c : Option Symmetry) {before after : List ℕ} {r : Report} → Writes (sample_bytes s) (window_bytes s (Kaiser beta) c (length before)) before r after → FiniteSamples beta c (length before / width_of s) r

@@ -10,8 +10,7 @@ use Rattle.ticket_kinds.specs.declared.Ticket.{Ticket}
 use Rattle.ticket_kinds.specs.declared.TicketWindow.{TicketWindow}
 use Rattle.ticket_kinds.specs.declared.TicketWindow.TheVariants.{Hann, Hamming, Blackman, Kaiser, Loaded}
 use Rattle.ticket_kinds.specs.declared.numbers.Numbers.{Numbers}
-use Rattle.ticket_card.specs.declared.Reading.TheVariants.{Read}
-use Rattle.ticket_card.specs.Card.{fields_in, kind_in, read_of}
+use Rattle.ticket_card.specs.Card.{fields_in, kind_in, read_of, found}
 use Rattle.ticket_card.specs.Readings.{numbers_in, read_begins}
 use Rattle.ticket_record.specs.Record.{field_list}
 
@@ -61,7 +60,7 @@ fields_below (suc n) d h b =
     more (lt_of_lt_of_le (subst (λ (m : ℕ). number_of (take 8 d) < 256 ^ m) (length-take-le 8 d (omega arith)) (number_below (take 8 d) (below_take 8 b))) (lit≤ tt))
     (fields_below n (drop 8 d) (omega (arith, length-drop 8 d)) (below_drop 8 b))
 
-pub read_fits : (d : List ℕ) (t : Ticket) (k : ℕ) → read_of d ≡ Read t k → Below 256 d → Below (2 ^ 64) (fields_of t)
+pub read_fits : (d : List ℕ) (t : Ticket) (k : ℕ) → read_of d ≡ found t k → Below 256 d → Below (2 ^ 64) (fields_of t)
 read_fits d t k e b =
     let g = read_begins d t k e in
     let l = length-drop 6 d in

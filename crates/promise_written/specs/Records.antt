@@ -11,8 +11,7 @@ use Rattle.ticket_kinds.specs.Kinds.{window_code, window_beta, window_of, kind_o
 use Rattle.ticket_kinds.specs.KindsLaws.{by_kind, count_is, kind_kept, formed_numbers, formed_passed, formed_back}
 use Rattle.ticket_kinds.specs.declared.Ticket.{Ticket}
 use Rattle.ticket_kinds.specs.declared.Ticket.TheVariants.{Lowpass, Spec, Halfband, Gaussian, Rrc, Channelizer}
-use Rattle.ticket_card.specs.declared.Reading.TheVariants.{Read}
-use Rattle.ticket_card.specs.Card.{fields_in, following, record_length, kind_in, read_of}
+use Rattle.ticket_card.specs.Card.{fields_in, following, record_length, kind_in, read_of, found}
 use Rattle.ticket_card.specs.Places.{eight_at, present}
 use Rattle.ticket_card.specs.Readings.{numbers_in, read_begins, begins_read}
 use Rattle.ticket_record.specs.Record.{field_bytes, record_bytes, record_of}
@@ -44,7 +43,7 @@ module _ (t : Ticket) (rest : List ℕ) (code : T (has_code t)) (fit : Below (2 
   back : (eqb (field_count (kind_of t)) 0 ≡ false) × (window_taken (kind_of t) (fields_of t) ≡ true) × (ticket_of (kind_of t) (fields_of t) ≡ t)
   back = formed_passed (kind_of t) (fields_of t) t (sym (formed_numbers (kind_of t) (fields_of t)) ∙ formed_back t code)
 
-  pub written_read : read_of (record_of t ++ rest) ≡ Read t (length (record_of t))
+  pub written_read : read_of (record_of t ++ rest) ≡ found t (length (record_of t))
   written_read = begins_read (record_of t ++ rest) t (length (record_of t)) (record {
     six = rw size (omega arith);
     known = rw kind back.0;
@@ -115,7 +114,7 @@ fields_zeroed d w u =
     let x : ℕ → ℕ = λ i. get_or (fields_in 5 d) i 0 in
     rw (code_again (x 2) (x 3) w, beta_dropped (x 2) (x 3) w u) (beta_zeroed 1 (x 0) (x 1) (x 2) (x 3) (x 4))
 
-module _ (d : List ℕ) (t : Ticket) (k : ℕ) (e : read_of d ≡ Read t k) where
+module _ (d : List ℕ) (t : Ticket) (k : ℕ) (e : read_of d ≡ found t k) where
   -- a record takes as many bytes as its ticket's has
   pub read_taken : k ≡ length (record_of t)
   read_taken =

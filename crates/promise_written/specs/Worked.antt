@@ -8,8 +8,7 @@ use Rattle.ticket_kinds.specs.Kinds.{field_count, window_taken, ticket_of, forme
 use Rattle.ticket_kinds.specs.declared.TicketWindow.TheVariants.{Hann, Loaded}
 use Rattle.ticket_kinds.specs.declared.Ticket.{Ticket}
 use Rattle.ticket_kinds.specs.declared.Ticket.TheVariants.{Lowpass, Halfband}
-use Rattle.ticket_card.specs.declared.Reading.TheVariants.{Read}
-use Rattle.ticket_card.specs.Card.{fields_in, read_of}
+use Rattle.ticket_card.specs.Card.{fields_in, read_of, found}
 use Rattle.ticket_record.specs.Record.{field_bytes, record_of, write_of}
 use Rattle.c_card.specs.Writing.{written_for, left_for}
 use Rattle.promise_written.specs.Records.{zeroed}
@@ -59,7 +58,7 @@ unused_given : left_for (formed_of (numbers 1 1 2 0 9 5)) (replicate 46 7) ≡ w
 unfolding bytes_of field_bytes write_of formed_of field_count window_taken ticket_of
 unused_given = refl
 
-unused_read : read_of (with_beta 9) ≡ Read hann 46
+unused_read : read_of (with_beta 9) ≡ found hann 46
 unfolding read_of field_count number_of fields_in window_taken ticket_of
 unused_read = refl
 

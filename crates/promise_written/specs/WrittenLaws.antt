@@ -8,6 +8,7 @@ use Rattle.std.specs.Float.Ieee.Bits.{is_true}
 use Rattle.laws.specs.Binary64.{whole}
 use Rattle.laws.specs.Cases.{either_way}
 use Rattle.laws.specs.Tests.{holds}
+use Rattle.laws.specs.Results.{refused_never}
 use Rattle.verdict.specs.Report.{report_of, accepted_of}
 use Rattle.verdict.specs.Reports.{done_report}
 use Rattle.verdict.specs.declared.Refusal.{Refusal}
@@ -19,7 +20,7 @@ use Rattle.ticket_kinds.specs.declared.Ticket.{Ticket}
 use Rattle.ticket_kinds.specs.declared.Ticket.TheVariants.{Lowpass, Spec, Halfband, Gaussian, Rrc, Channelizer}
 use Rattle.ticket_kinds.specs.declared.numbers.Numbers.{Numbers}
 use Rattle.ticket_card.specs.declared.Reading.{Reading}
-use Rattle.ticket_card.specs.Card.{record_length, read_of}
+use Rattle.ticket_card.specs.Card.{record_length, read_of, found}
 use Rattle.ticket_record.specs.Record.{record_of, field_list, write_of, left_by}
 use Rattle.ticket_record.specs.RecordLaws.{length_record}
 use Rattle.c_card.specs.Cards.{told_of}
@@ -33,9 +34,6 @@ use Rattle.promise_card.specs.ReadsLaws.{read_listed, read_coded}
 use Rattle.promise_written.specs.Fits.{ticket_fits, read_fits}
 use Rattle.promise_written.specs.Records.{zeroed, written_read, read_written, read_zeroed, read_taken}
 use Rattle.promise_written.specs.Written.{own_numbers, bytes_taken, WrittenOrKept, ReadAs, ReadsBack, WritesBack}
-
-never_done : {why : Refusal} → Err why ≡ Ok tt → ⊥
-never_done e = let z : ◌≡◌ {A = ℕ} 0 1 = cc in omega arith
 
 -- ---- every refusal has one of the numbers
 write_listed : (t : Ticket) (len : ℕ) → Listed (write_of t len)
@@ -60,8 +58,8 @@ by_kinds (Channelizer t) = refl
 -- ---- a record that was written: its window has a code, and the buffer is as long as it
 done_only : (a b : Bool) (x y : Refusal) → cond a (cond b (Ok tt) (Err x)) (Err y) ≡ Ok tt → (a ≡ true) × (b ≡ true)
 done_only true true x y e = (refl, refl)
-done_only true false x y e = absurd (never_done e)
-done_only false b x y e = absurd (never_done e)
+done_only true false x y e = absurd (refused_never e)
+done_only false b x y e = absurd (refused_never e)
 
 wrote : (t : Ticket) (len : ℕ) → write_of t len ≡ Ok tt → (has_code t ≡ true) × (len ≡ length (record_of t))
 unfolding write_of
@@ -105,7 +103,7 @@ module _ (n : Numbers) {before after : List ℕ} {r : Report} (w : WritesTicket 
             bytes = w.buffer ∙ ap (λ (f : Result Ticket Refusal). left_for f before) e ∙ ap (λ (x : Result (Unit {0}) Refusal). left_by x t before) v;
             told = w.answer ∙ ap (done_report (length before)) d;
           }
-      go (Err why) e d = absurd (never_done (sym (ap (λ (f : Result Ticket Refusal). written_for f (length before)) e) ∙ d))
+      go (Err why) e d = absurd (refused_never (sym (ap (λ (f : Result Ticket Refusal). written_for f (length before)) e) ∙ d))
 
   pub written_or_kept : length after ≡ length before → WrittenOrKept n before r after
   unfolding accepted_of
@@ -163,13 +161,13 @@ pub writes_back : (s : List ℕ) {read : TicketRead} {before after : List ℕ} {
 unfolding accepted_of
 writes_back s {read} {before} {after} {r} b e w = go (read_of s) refl
   where
-    go : (x : Reading) → read_of s ≡ x → WritesBack s read before r after
-    go (Reading.Refused why) g z l =
-        let h : read.report ≡ report_of why = ap (λ (y : TicketRead). y.report) e ∙ ap (λ (y : Reading). (told_of y).report) g in
-        absurd (never_zero (report_of why).number (subst (λ (y : Reading). Listed (of_reading y)) g (read_listed s)) (ap (λ (y : Report). y.number) (sym h) ∙ z))
-    go (Reading.Read t k) g z l =
-        let h : read.report ≡ accepted_of k (whole 0) = ap (λ (y : TicketRead). y.report) e ∙ ap (λ (y : Reading). (told_of y).report) g in
-        let m : read.ticket ≡ numbers_of t = ap (λ (y : TicketRead). y.ticket) e ∙ ap (λ (y : Reading). (told_of y).ticket) g in
+    go : (x : Result Reading Refusal) → read_of s ≡ x → WritesBack s read before r after
+    go (Err why) g z l =
+        let h : read.report ≡ report_of why = ap (λ (y : TicketRead). y.report) e ∙ ap (λ (y : Result Reading Refusal). (told_of y).report) g in
+        absurd (never_zero (report_of why).number (subst (λ (y : Result Reading Refusal). Listed (of_reading y)) g (read_listed s)) (ap (λ (y : Report). y.number) (sym h) ∙ z))
+    go (found t k) g z l =
+        let h : read.report ≡ accepted_of k (whole 0) = ap (λ (y : TicketRead). y.report) e ∙ ap (λ (y : Result Reading Refusal). (told_of y).report) g in
+        let m : read.ticket ≡ numbers_of t = ap (λ (y : TicketRead). y.ticket) e ∙ ap (λ (y : Result Reading Refusal). (told_of y).ticket) g in
         let c = read_coded s t k g in
         let f : formed_of read.ticket ≡ Ok t = ap formed_of m ∙ formed_back t c in
         let j : length before ≡ k = l ∙ ap (λ (y : Report). y.count) h in
@@ -184,7 +182,7 @@ writes_back s {read} {before} {after} {r} b e w = go (read_of s) refl
           again = λ rest.
               ap (λ (l : List ℕ). told_of (read_of (l ++ rest))) left
               ∙ ap told_of (written_read t rest c (read_fits s t k g b))
-              ∙ ap (λ (j : ℕ). told_of (Reading.Read t j)) (sym (read_taken s t k g))
+              ∙ ap (λ (j : ℕ). told_of (found t j)) (sym (read_taken s t k g))
               ∙ ap told_of (sym g)
               ∙ sym e;
         }

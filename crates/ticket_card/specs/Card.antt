@@ -1,13 +1,15 @@
 -- What reading the bytes of a card finds. Definitions only.
 -- "A record is a four-byte length of what follows, then a two-byte kind, then fields of eight bytes, all
 -- little-endian."
-use Rattle.std.specs.Prelude.{ℕ, zero, suc, ◌+◌, ◌*◌, List, [], ◌∷◌, cond, eqb, ltb, leb, length, take, drop}
+use Rattle.std.specs.Prelude.{ℕ, zero, suc, ◌+◌, ◌*◌, List, [], ◌∷◌, cond, eqb, ltb, leb, length, take, drop, Ok, Err, Result}
 use Rattle.wire.specs.Bytes.{number_of}
-use Rattle.verdict.specs.Numbers.{bad_code, cut_short, unknown_kind, bad_record_length}
+use Rattle.verdict.specs.declared.Reason.{Reason}
+use Rattle.verdict.specs.declared.Reason.TheVariants as Reason
+use Rattle.ticket_kinds.specs.declared.Ticket.{Ticket}
 use Rattle.verdict.specs.declared.Refusal.TheVariants.{Plain}
 use Rattle.ticket_kinds.specs.Kinds.{field_count, window_taken, ticket_of}
 use Rattle.ticket_card.specs.declared.Reading.{Reading}
-use Rattle.ticket_card.specs.declared.Reading.TheVariants.{Read, Refused}
+use Rattle.verdict.specs.declared.Refusal.{Refusal}
 
 -- ---- what stands where
 abbrev pub length_in : List ℕ → ℕ
@@ -29,25 +31,29 @@ abbrev pub record_length : ℕ → ℕ
 record_length n = 6 + 8 * n
 
 -- ---- reading
-abbrev pub refused : ℕ → Reading
-refused number = Refused (Plain number)
+abbrev pub refused : Reason → Result Reading Refusal
+refused why = Err (Plain why)
+
+-- a ticket, and how many bytes its record takes
+abbrev pub found : Ticket → ℕ → Result Reading Refusal
+found t k = Ok (record { ticket = t; taken = k })
 
 -- "fewer than six bytes is 12, then 13, 14, and 12 for a short body. A window field above 3 is 7, tested last": k is
 -- the kind and n the number of its fields
-abbrev pub read_kind : ℕ → ℕ → List ℕ → Reading
+abbrev pub read_kind : ℕ → ℕ → List ℕ → Result Reading Refusal
 read_kind k n d =
     let xs = fields_in n (drop 6 d) in
-    cond (eqb n 0) (refused unknown_kind)
+    cond (eqb n 0) (refused Reason.Kind)
     (cond (eqb (length_in d) (following n))
     (cond (leb (record_length n) (length d))
-    (cond (window_taken k xs) (Read (ticket_of k xs) (record_length n)) (refused bad_code))
-    (refused cut_short))
-    (refused bad_record_length))
+    (cond (window_taken k xs) (found (ticket_of k xs) (record_length n)) (refused Reason.Code))
+    (refused Reason.CutShort))
+    (refused Reason.RecordLength))
 
-unfoldable pub read_of : List ℕ → Reading
-read_of d = cond (ltb (length d) 6) (refused cut_short) (read_kind (kind_in d) (field_count (kind_in d)) d)
+unfoldable pub read_of : List ℕ → Result Reading Refusal
+read_of d = cond (ltb (length d) 6) (refused Reason.CutShort) (read_kind (kind_in d) (field_count (kind_in d)) d)
 
 -- how many bytes were read: none where there is no ticket, so that all of them stay unread
-abbrev pub taken_of : Reading → ℕ
-taken_of (Read t k) = k
-taken_of (Refused why) = 0
+abbrev pub taken_of : Result Reading Refusal → ℕ
+taken_of (Ok r) = r.taken
+taken_of (Err why) = 0

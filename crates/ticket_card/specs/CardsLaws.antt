@@ -3,9 +3,8 @@ use Rattle.std.specs.Prelude.{◌≡◌, refl, List, [], ◌∷◌, ◌++◌, �
 use Rattle.std.proofs.Common.{sym, subst, append_assoc, arith, length-append, length-drop, drop-drop}
 use Rattle.verdict.specs.declared.Refusal.{Refusal}
 use Rattle.ticket_kinds.specs.declared.Ticket.{Ticket}
-use Rattle.ticket_card.specs.declared.Reading.TheVariants.{Read, Refused}
 use Rattle.ticket_card.specs.declared.card.Checked.{Checked}
-use Rattle.ticket_card.specs.Card.{read_of}
+use Rattle.ticket_card.specs.Card.{read_of, found}
 use Rattle.ticket_card.specs.Cards.{CardReads, ends, breaks, next, Checks}
 use Rattle.ticket_card.specs.Readings.{read_there, read_some}
 
@@ -34,7 +33,7 @@ at_first d = record {
     drop_none (b ∷ d) = refl
 
 module _ {d : List ℕ} {at n : ℕ} (r : Reached d at n) where
-  pub one_more : (t : Ticket) (k : ℕ) → read_of (drop at d) ≡ Read t k → Reached d (at + k) (n + 1)
+  pub one_more : (t : Ticket) (k : ℕ) → read_of (drop at d) ≡ found t k → Reached d (at + k) (n + 1)
   one_more t k e = record {
     held = r.held ++ (t ∷ []);
     count = omega (arith, r.count, length-append r.held (t ∷ []));
@@ -60,7 +59,7 @@ module _ {d : List ℕ} {at n : ℕ} (r : Reached d at n) where
       zero_more : (a : ℕ) → a + 0 ≡ a
       zero_more a = omega arith
 
-  pub broken : {why : Refusal} (c : Checked) → c.tickets ≡ n → c.place ≡ at → c.ended ≡ Err why → at < length d → read_of (drop at d) ≡ Refused why → Checks d c
+  pub broken : {why : Refusal} (c : Checked) → c.tickets ≡ n → c.place ≡ at → c.ended ≡ Err why → at < length d → read_of (drop at d) ≡ Err why → Checks d c
   broken {why} c tickets place ended l e = stop c (Err why) tickets place ended (breaks (omega (arith, length-drop at d)) e)
 
   pub whole : (c : Checked) → c.tickets ≡ n → c.place ≡ at → c.ended ≡ Ok tt → length d ≤ at → Checks d c

@@ -1,22 +1,21 @@
 -- What a reading that found a ticket tells of the bytes, and the other way. Assumes nothing.
-use Rattle.std.specs.Prelude.{◌≡◌, refl, Bool, true, false, cond, List, ℕ, ◌≤◌, eqb, length, drop}
+use Rattle.std.specs.Prelude.{◌≡◌, refl, Bool, true, false, cond, List, ℕ, ◌≤◌, eqb, length, drop, Err, Result}
 use Rattle.std.proofs.Common.{arith, ltb-false, leb-true, eqb-true, le-ltb, le-leb, eq-eqb}
 use Rattle.verdict.specs.declared.Refusal.{Refusal}
 use Rattle.ticket_kinds.specs.declared.Ticket.{Ticket}
 use Rattle.ticket_card.specs.declared.Reading.{Reading}
-use Rattle.ticket_card.specs.declared.Reading.TheVariants.{Read, Refused}
 use Rattle.ticket_kinds.specs.Kinds.{field_count, ticket_of, window_taken}
-use Rattle.ticket_card.specs.Card.{fields_in, following, record_length, length_in, kind_in, read_of}
+use Rattle.ticket_card.specs.Card.{fields_in, following, record_length, length_in, kind_in, read_of, found}
 
-never : (why : Refusal) (t : Ticket) (k : ℕ) → Refused why ≡ Read t k → ⊥
+never : (why : Refusal) (t : Ticket) (k : ℕ) → Err why ≡ found t k → ⊥
 never why t k e = let z : ◌≡◌ {A = ℕ} 0 1 = cc in omega arith
 
 -- a test that refuses where it is true was false, and one that refuses where it is false was true
-past : (b : Bool) (why : Refusal) (r : Reading) (t : Ticket) (k : ℕ) → cond b (Refused why) r ≡ Read t k → (b ≡ false) × (r ≡ Read t k)
+past : (b : Bool) (why : Refusal) (r : Result Reading Refusal) (t : Ticket) (k : ℕ) → cond b (Err why) r ≡ found t k → (b ≡ false) × (r ≡ found t k)
 past true why r t k e = absurd (never why t k e)
 past false why r t k e = (refl, e)
 
-met : (b : Bool) (why : Refusal) (r : Reading) (t : Ticket) (k : ℕ) → cond b r (Refused why) ≡ Read t k → (b ≡ true) × (r ≡ Read t k)
+met : (b : Bool) (why : Refusal) (r : Result Reading Refusal) (t : Ticket) (k : ℕ) → cond b r (Err why) ≡ found t k → (b ≡ true) × (r ≡ found t k)
 met true why r t k e = (refl, e)
 met false why r t k e = absurd (never why t k e)
 
@@ -34,7 +33,7 @@ pub record Begins (d : List ℕ) (t : Ticket) (k : ℕ) : Type 0 where
   pub ticket : ticket_of (kind_in d) (numbers_in d) ≡ t
   pub taken : record_length (field_count (kind_in d)) ≡ k
 
-pub read_begins : (d : List ℕ) (t : Ticket) (k : ℕ) → read_of d ≡ Read t k → Begins d t k
+pub read_begins : (d : List ℕ) (t : Ticket) (k : ℕ) → read_of d ≡ found t k → Begins d t k
 unfolding read_of
 read_begins d t k e =
     let a = past _ _ _ t k e in
@@ -52,13 +51,13 @@ read_begins d t k e =
       taken = size g.1;
     }
   where
-    same : {x y : Ticket} {m n : ℕ} → Read x m ≡ Read y n → x ≡ y
+    same : {x y : Ticket} {m n : ℕ} → found x m ≡ found y n → x ≡ y
     same e = cc
 
-    size : {x y : Ticket} {m n : ℕ} → Read x m ≡ Read y n → m ≡ n
+    size : {x y : Ticket} {m n : ℕ} → found x m ≡ found y n → m ≡ n
     size e = cc
 
-pub begins_read : (d : List ℕ) (t : Ticket) (k : ℕ) → Begins d t k → read_of d ≡ Read t k
+pub begins_read : (d : List ℕ) (t : Ticket) (k : ℕ) → Begins d t k → read_of d ≡ found t k
 unfolding read_of
 begins_read d t k b =
     rw (
@@ -72,8 +71,8 @@ begins_read d t k b =
     )
 
 -- ---- the bytes that a record takes: they are there, and some are
-pub read_there : (d : List ℕ) (t : Ticket) (k : ℕ) → read_of d ≡ Read t k → k ≤ length d
+pub read_there : (d : List ℕ) (t : Ticket) (k : ℕ) → read_of d ≡ found t k → k ≤ length d
 read_there d t k e = let b = read_begins d t k e in rw (← b.taken) b.there
 
-pub read_some : (d : List ℕ) (t : Ticket) (k : ℕ) → read_of d ≡ Read t k → 6 ≤ k
+pub read_some : (d : List ℕ) (t : Ticket) (k : ℕ) → read_of d ≡ found t k → 6 ≤ k
 read_some d t k e = let b = read_begins d t k e in rw (← b.taken) (omega arith)

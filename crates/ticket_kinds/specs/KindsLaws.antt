@@ -2,6 +2,7 @@
 use Rattle.std.specs.Prelude.{◌≡◌, refl, Bool, true, false, cond, List, ℕ, zero, suc, ◌≤◌, ◌<◌, T, eqb, leb, length, Err, Ok}
 use Rattle.std.proofs.Common.{true≢false, arith, ne_eqb}
 use Rattle.std.proofs.lemmas.Bool.{eqb-false}
+use Rattle.laws.specs.Results.{refused_never, same_answer}
 use Rattle.verdict.specs.declared.Refusal.{Refusal}
 use Rattle.verdict.specs.declared.Refusal.TheVariants.{Plain}
 use Rattle.ticket_kinds.specs.declared.TicketWindow.{TicketWindow}
@@ -68,16 +69,10 @@ unfolding formed_of window_taken ticket_of
 formed_numbers k xs = refl
 
 -- what passed them
-never : {why : Refusal} {t : Ticket} → Err why ≡ Ok t → ⊥
-never e = let z : ◌≡◌ {A = ℕ} 0 1 = cc in omega arith
-
 passed : (a b : Bool) (why other : Refusal) (x t : Ticket) → cond a (Err why) (cond b (Ok x) (Err other)) ≡ Ok t → (a ≡ false) × (b ≡ true) × (x ≡ t)
-passed true b why other x t e = absurd (never e)
-passed false true why other x t e = (refl, refl, same e)
-  where
-    same : {x t : Ticket} → Ok x ≡ Ok t → x ≡ t
-    same e = cc
-passed false false why other x t e = absurd (never e)
+passed true b why other x t e = absurd (refused_never e)
+passed false true why other x t e = (refl, refl, same_answer e)
+passed false false why other x t e = absurd (refused_never e)
 
 pub formed_passed : (k : ℕ) (xs : List ℕ) (t : Ticket) → formed k xs ≡ Ok t → (eqb (field_count k) 0 ≡ false) × (window_taken k xs ≡ true) × (ticket_of k xs ≡ t)
 formed_passed k xs t e = passed _ _ _ _ _ t e

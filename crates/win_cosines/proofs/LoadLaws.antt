@@ -8,6 +8,7 @@ use Rattle.std.specs.Float.Ieee.{of_int, round, neg}
 use Rattle.laws.specs.Binary64.{whole}
 use Rattle.laws.specs.Totals.{units, sum_z}
 use Rattle.laws.specs.Units.{mag}
+use Rattle.laws.specs.Results.{refused_never, same_answer}
 use Rattle.math_unity.specs.Unity.{within, all_within, near_one}
 use Rattle.verdict.specs.declared.Refusal.{Refusal}
 use Rattle.verdict.specs.declared.Refusal.TheVariants.{Plain, Range}
@@ -60,12 +61,9 @@ unfolding numbers_taken all_within
 taken_within [] e = refl
 taken_within (x ∷ xs) e = go (within x) (λ h. taken_within xs h) e
   where
-    never_done : (why : Refusal) → Err why ≢ (Ok tt)
-    never_done why g = let z : ◌≡◌ {A = ℕ} 0 1 = cc in omega arith
-
     go : (b : Bool) → (numbers_taken xs ≡ Ok tt → all_within xs ≡ true) → cond b (numbers_taken xs) (Err (Range Reason.Coefficient (neg (whole 1)) (whole 1) x)) ≡ Ok tt → (b && all_within xs) ≡ true
     go true rest e = rest e
-    go false rest e = absurd (never_done _ e)
+    go false rest e = absurd (refused_never e)
 
 -- ---- each way that loading ends, for a list of n numbers that are those of the window c
 module _ {n : ℕ} {c : Cosines} (cs : List Float) (k : length cs ≡ n) (is : cosines_of cs ≡ c) where
@@ -103,18 +101,12 @@ module _ {n : ℕ} {c : Cosines} (cs : List Float) (k : length cs ≡ n) (is : c
         ∙ sym (counted ∙ ap (λ (v : Result (Unit {0}) Refusal). where_passed v (cond (near_one cs) (Ok (cosines_of cs)) (Err (Plain Reason.CoefficientSum)))) (sym (e ∙ taken)))
 
 -- ---- a window that is loaded has the numbers that were given
-pub never : (why : Refusal) (c : Cosines) → Err why ≢ Ok c
-never why c g = let z : ◌≡◌ {A = ℕ} 0 1 = cc in omega arith
-
-same_window : (c d : Cosines) → Ok c ≡ Ok d → c ≡ d
-same_window c d e = cc
-
 pub these : (cs : List Float) (c : Cosines) → load_of cs ≡ Ok c → c ≡ cosines_of cs
 unfolding load_of
 these cs c e = go (nat_le 1 (length cs) && nat_le (length cs) 5) (numbers_taken cs) (near_one cs) e
   where
     go : (a : Bool) (v : Result (Unit {0}) Refusal) (b : Bool) → cond a (where_passed v (cond b (Ok (cosines_of cs)) (Err (Plain Reason.CoefficientSum)))) (Err (Range Reason.CoefficientCount (whole 1) (whole 5) (whole (length cs)))) ≡ Ok c → c ≡ cosines_of cs
-    go true (Ok tt) true e = sym (same_window (cosines_of cs) c e)
-    go true (Ok tt) false e = absurd (never _ c e)
-    go true (Err why) b e = absurd (never why c e)
-    go false v b e = absurd (never _ c e)
+    go true (Ok tt) true e = sym (same_answer e)
+    go true (Ok tt) false e = absurd (refused_never e)
+    go true (Err why) b e = absurd (refused_never e)
+    go false v b e = absurd (refused_never e)

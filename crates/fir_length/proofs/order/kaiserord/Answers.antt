@@ -60,5 +60,5 @@ returns c =
     let past2 : lt (abs_of c.args.ripple) (whole 8) ≡ false = ap (λ (a : Float). lt a (whole 8)) (sym size) ∙ c.if-a.false in
     let wide : c.is_positive.result ≡ positive (whole 2 ⊗ c.args.transition ⊘ c.args.rate) = c.is_positive.ensures in
     let past3 : positive (whole 2 ⊗ c.args.transition ⊘ c.args.rate) ≡ true = sym wide ∙ c.if-not-is_positive.false in
-    rw (c.odd_taps-n.ensures, c.kaiser_beta-beta.ensures, estimated, size)
+    rw (c.odd_taps.ensures, c.kaiser_beta.ensures, estimated, size)
     (sym (rw (past1, past2, past3, ap (λ (z : Float). lt (whole 16777216) z) (sym estimated) ∙ c.if-num.false)))
