@@ -77,18 +77,13 @@ pub fn channelizer_taps(channels: u64, passband: f64, stopband: f64, attenuation
     if !takes_channels(channels) {
         return Err(Refusal::Plain(Reason::Count));
     }
-    let checked = check_edges(passband, stopband, attenuation);
-    match checked {
-        Ok(()) => {
-            let width = 2.0 * (stopband - passband) / std::num::nearest_u64_to_f64(channels);
-            let num = fir_length::order::taps_estimate(attenuation, width);
-            if takes_estimate(num) {
-                Ok(math_numbers::to_count(math_round::ceil::ceil(num)))
-            } else {
-                Err(Refusal::Plain(Reason::Transition))
-            }
-        }
-        Err(why) => Err(why),
+    check_edges(passband, stopband, attenuation)?;
+    let width = 2.0 * (stopband - passband) / std::num::nearest_u64_to_f64(channels);
+    let num = fir_length::order::taps_estimate(attenuation, width);
+    if takes_estimate(num) {
+        Ok(math_numbers::to_count(math_round::ceil::ceil(num)))
+    } else {
+        Err(Refusal::Plain(Reason::Transition))
     }
 }
 
@@ -102,17 +97,12 @@ pub fn channelizer_taps_per_branch(
 ) -> Result<u64, Refusal>
     ensures { result ≡ branch_of channels (channelizer_taps_of channels passband stopband attenuation) }
 {
-    let length = channelizer_taps(channels, passband, stopband, attenuation);
-    match length {
-        Ok(n) => {
-            if n % channels == 0 {
-                Ok(n / channels)
-            } else {
-                Ok(n / channels + 1)
-            }
-        }
-        Err(why) => Err(why),
-    }
+    let n = channelizer_taps(channels, passband, stopband, attenuation)?;
+    Ok(if n % channels == 0 {
+        n / channels
+    } else {
+        n / channels + 1
+    })
 }
 
 // The prototype, channels · branch taps: the cutoff lies half way between the edges. Refused, in this order: 6 the
@@ -134,21 +124,16 @@ pub fn prepare(
     if !takes_branch(branch) {
         return Err(Refusal::Plain(Reason::Count));
     }
-    let checked = check_edges(passband, stopband, attenuation);
-    match checked {
-        Ok(()) => {
-            let cutoff = (passband + stopband) / (2.0 * std::num::nearest_u64_to_f64(channels));
-            let beta = fir_length::beta::kaiser_beta(attenuation);
-            fir_lowpass::lowpass::prepare(
-                cutoff,
-                1.0,
-                Window::Kaiser(beta),
-                channels * branch,
-                &mut *raws,
-            )
-        }
-        Err(why) => Err(why),
-    }
+    check_edges(passband, stopband, attenuation)?;
+    let cutoff = (passband + stopband) / (2.0 * std::num::nearest_u64_to_f64(channels));
+    let beta = fir_length::beta::kaiser_beta(attenuation);
+    fir_lowpass::lowpass::prepare(
+        cutoff,
+        1.0,
+        Window::Kaiser(beta),
+        channels * branch,
+        &mut *raws,
+    )
 }
 
 // The design alone; refused as `prepare`.
@@ -177,23 +162,16 @@ pub fn fitted(
 ) -> Result<Lowpass, Refusal>
     ensures { PreparesLowpass (fitted_of (channelizer_lowpass_of channels branch passband stopband attenuation) len) result raws.new }
 {
-    let designed = prepare(
+    let lp = prepare(
         channels,
         branch,
         passband,
         stopband,
         attenuation,
         &mut *raws,
-    );
-    match designed {
-        Ok(lp) => {
-            let n = lp.n;
-            if n == len {
-                Ok(lp)
-            } else {
-                Err(Refusal::Length(n, len))
-            }
-        }
-        Err(why) => Err(why),
+    )?;
+    if lp.n != len {
+        return Err(Refusal::Length(lp.n, len));
     }
+    Ok(lp)
 }

@@ -161,16 +161,9 @@ pub fn cached_tap(g: Gaussian, raws: &[f64], i: u64) -> f64
 pub fn fitted(bt: f64, sps: u64, span: u64, len: u64, raws: &mut [f64]) -> Result<Gaussian, Refusal>
     ensures { PreparesGaussian (fitted_of (gaussian_of bt sps span) len) result raws.new }
 {
-    let designed = prepare(bt, sps, span, &mut *raws);
-    match designed {
-        Ok(g) => {
-            let n = g.n;
-            if n == len {
-                Ok(g)
-            } else {
-                Err(Refusal::Length(n, len))
-            }
-        }
-        Err(why) => Err(why),
+    let g = prepare(bt, sps, span, &mut *raws)?;
+    if g.n != len {
+        return Err(Refusal::Length(g.n, len));
     }
+    Ok(g)
 }

@@ -74,21 +74,12 @@ pub fn prepare(beta: f64, n: u64, raws: &mut [f64]) -> Result<HalfbandDesign, Re
     if !takes_length(n) {
         return Err(Refusal::Plain(Reason::Count));
     }
-    let designed = fir_lowpass::lowpass::prepare(0.25, 1.0, Window::Kaiser(beta), n, &mut *raws);
-    match designed {
-        Ok(lp) => {
-            let sum = total(lp, &*raws, n);
-            if !is_usable(sum) {
-                return Err(Refusal::Plain(Reason::Divisor));
-            }
-            Ok(HalfbandDesign {
-                lp: lp,
-                n: n,
-                sum: sum,
-            })
-        }
-        Err(why) => Err(why),
+    let lp = fir_lowpass::lowpass::prepare(0.25, 1.0, Window::Kaiser(beta), n, &mut *raws)?;
+    let sum = total(lp, &*raws, n);
+    if !is_usable(sum) {
+        return Err(Refusal::Plain(Reason::Divisor));
     }
+    Ok(HalfbandDesign { lp, n, sum })
 }
 
 // Tap k of a design, `raws` keeping the first raw taps of its low-pass; 0 past the last tap.

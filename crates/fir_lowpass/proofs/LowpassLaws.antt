@@ -73,7 +73,7 @@ unfolding judgement_of
 passed cutoff rate w n g = go (positive rate) (inside (cutoff ⊘ rate)) (count_taken n) (beta_taken w) (series_settle w n) refl refl refl refl refl g
   where
     go : (a b c d e : Bool) → positive rate ≡ a → inside (cutoff ⊘ rate) ≡ b → count_taken n ≡ c → beta_taken w ≡ d → series_settle w n ≡ e
-        → cond a (cond b (cond c (cond d (cond e (Ok tt) (Err (Plain Reason.Unsettled))) (Err (Plain Reason.Attenuation))) (Err (Plain Reason.Count))) (Err (Range Reason.Frequency (whole 0) (rate ⊘ whole 2) cutoff))) (Err (Plain Reason.Rate)) ≡ Ok tt
+        → cond a (cond b (cond c (cond d (cond e (Ok tt) (Err (Plain Reason.Unsettled))) (Err (Plain Reason.Attenuation))) (Err (Plain Reason.Count))) (Err (Range Reason.Frequency (whole 0) (rate ⊘ whole 2) cutoff))) (Err (Plain Reason.Rate)) ≡ Ok (tt {0})
         → Passed cutoff rate w n
     go true true true true true a b c d e g = record { rated = a; inner = b; counted = c; shaped = d; settles = e }
     go true true true true false a b c d e g = absurd (refused_never g)

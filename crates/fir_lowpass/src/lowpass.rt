@@ -118,11 +118,8 @@ fn build(fc: f64, window: Window, i0: f64, n: u64, raws: &mut [f64]) -> Result<L
 pub fn prepare(cutoff: f64, rate: f64, window: Window, n: u64, raws: &mut [f64]) -> Result<Lowpass, Refusal>
     ensures { PreparesLowpass (lowpass_of cutoff rate window n) result raws.new }
 {
-    let verdict = judge(cutoff, rate, window, n);
-    match verdict {
-        Ok(()) => build(cutoff / rate, window, norm(window), n, &mut *raws),
-        Err(why) => Err(why),
-    }
+    judge(cutoff, rate, window, n)?;
+    build(cutoff / rate, window, norm(window), n, &mut *raws)
 }
 
 // The same where i0, the value that the window is divided by, is at hand; refused as that.
@@ -136,11 +133,8 @@ pub fn prepare_with(
 ) -> Result<Lowpass, Refusal>
     ensures { PreparesLowpass (lowpass_with cutoff rate window i0 n) result raws.new }
 {
-    let verdict = judge(cutoff, rate, window, n);
-    match verdict {
-        Ok(()) => build(cutoff / rate, window, i0, n, &mut *raws),
-        Err(why) => Err(why),
-    }
+    judge(cutoff, rate, window, n)?;
+    build(cutoff / rate, window, i0, n, &mut *raws)
 }
 
 // Tap i of a design where `raws` keeps its first raw taps, which are taken from there.

@@ -139,19 +139,14 @@ impl Rrc {
         if !takes_rolloff(rolloff) {
             return Err(Refusal::Range(Reason::Shape, 0.05, 1.0, rolloff));
         }
-        let length = rrc_len(sps, span);
-        match length {
-            Ok(n) => {
-                let norm = 1.0 / math_sqrt::sqrt::sqrt(energy(rolloff, sps, n));
-                Ok(Rrc {
-                    rolloff: rolloff,
-                    sps: sps,
-                    n: n,
-                    norm: norm,
-                })
-            }
-            Err(why) => Err(why),
-        }
+        let n = rrc_len(sps, span)?;
+        let norm = 1.0 / math_sqrt::sqrt::sqrt(energy(rolloff, sps, n));
+        Ok(Rrc {
+            rolloff,
+            sps,
+            n,
+            norm,
+        })
     }
 
     // How many taps.
@@ -185,16 +180,9 @@ impl Rrc {
 pub fn fitted(rolloff: f64, sps: u64, span: u64, len: u64) -> Result<Rrc, Refusal>
     ensures { result ≡ fitted_of (rrc_of rolloff sps span) len }
 {
-    let designed = Rrc::new(rolloff, sps, span);
-    match designed {
-        Ok(d) => {
-            let n = d.n;
-            if n == len {
-                Ok(d)
-            } else {
-                Err(Refusal::Length(n, len))
-            }
-        }
-        Err(why) => Err(why),
+    let d = Rrc::new(rolloff, sps, span)?;
+    if d.n != len {
+        return Err(Refusal::Length(d.n, len));
     }
+    Ok(d)
 }

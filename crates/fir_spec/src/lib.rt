@@ -25,22 +25,6 @@ fn takes_cutoff(cutoff: f64, most: f64) -> bool
     0.0 < cutoff && cutoff <= most
 }
 
-// The order within the cap: 9 where it has more taps.
-fn capped(order: Result<Order, Refusal>, cap: u64) -> Result<Order, Refusal>
-    ensures { result ≡ capped_of order cap }
-{
-    match order {
-        Order::Taps(n, beta) => {
-            if cap < n {
-                Err(Refusal::Cap(n, cap))
-            } else {
-                Order::Taps(n, beta)
-            }
-        }
-        Err(why) => Err(why),
-    }
-}
-
 // Taps and beta of a specification at a rate. Refused, in this order: 1 a rate that isn't finite and positive; 3 with
 // 0, rate/2, transition where that isn't; 2 with 0, rate/2 − transition/2, cutoff where the cutoff isn't above 0 and at
 // most that; 4, 3, 3 as kaiserord; 9 more taps than the cap.
@@ -59,7 +43,11 @@ pub fn spec_order(spec: DesignSpec, rate: f64, cap: u64) -> Result<Order, Refusa
     if !takes_cutoff(cutoff, most) {
         return Err(Refusal::Range(Reason::Frequency, 0.0, most, cutoff));
     }
-    capped(kaiserord(spec.attenuation, transition, rate), cap)
+    let order = kaiserord(spec.attenuation, transition, rate)?;
+    if cap < order.taps {
+        return Err(Refusal::Cap(order.taps, cap));
+    }
+    Ok(order)
 }
 
 // The design for a buffer of `len` elements: refused as `spec_order`, then 8 where the taps are not `len`, then as a
@@ -68,17 +56,12 @@ pub fn spec_order(spec: DesignSpec, rate: f64, cap: u64) -> Result<Order, Refusa
 pub fn spec_prepare(spec: DesignSpec, rate: f64, cap: u64, len: u64, raws: &mut [f64]) -> Result<Lowpass, Refusal>
     ensures { PreparesLowpass (spec_design_of spec rate cap len) result raws.new }
 {
-    let order = spec_order(spec, rate, cap);
-    match order {
-        Order::Taps(n, beta) => {
-            if n == len {
-                prepare(spec.cutoff, rate, Window::Kaiser(beta), n, &mut *raws)
-            } else {
-                Err(Refusal::Length(n, len))
-            }
-        }
-        Err(why) => Err(why),
+    let order = spec_order(spec, rate, cap)?;
+    let n = order.taps;
+    if n != len {
+        return Err(Refusal::Length(n, len));
     }
+    prepare(spec.cutoff, rate, Window::Kaiser(order.beta), n, &mut *raws)
 }
 
 impl DesignSpec {
@@ -87,21 +70,15 @@ impl DesignSpec {
     pub fn num_taps(self, rate: f64, cap: u64) -> Result<u64, Refusal>
         ensures { result ≡ num_taps_of self rate cap }
     {
-        let order = spec_order(self, rate, cap);
-        match order {
-            Order::Taps(n, _) => Ok(n),
-            Err(why) => Err(why),
-        }
+        let order = spec_order(self, rate, cap)?;
+        Ok(order.taps)
     }
 
     // The design alone, of as many taps as it needs: refused as `spec_order`, then as a low-pass.
     pub fn lowpass(self, rate: f64, cap: u64) -> Result<Lowpass, Refusal>
         ensures { result ≡ spec_lowpass_of self rate cap }
     {
-        let order = spec_order(self, rate, cap);
-        match order {
-            Order::Taps(n, beta) => Lowpass::new(self.cutoff, rate, Window::Kaiser(beta), n),
-            Err(why) => Err(why),
-        }
+        let order = spec_order(self, rate, cap)?;
+        Lowpass::new(self.cutoff, rate, Window::Kaiser(order.beta), order.taps)
     }
 }

@@ -60,15 +60,7 @@ pub fn to_q14(src: &[f64], dst: &mut [i16]) -> Result<(), Refusal>
         return Err(Refusal::Length(n as u64, dst.len() as u64));
     }
     for i in 0..n {
-        let coded = q14_from_f64(i as u64, src[i]);
-        match coded {
-            Ok(q) => {
-                dst[i] = q;
-            }
-            Err(why) => {
-                return Err(why);
-            }
-        }
+        dst[i] = q14_from_f64(i as u64, src[i])?;
     }
     Ok(())
 }

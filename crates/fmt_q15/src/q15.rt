@@ -59,15 +59,7 @@ pub fn to_q15(src: &[f64], dst: &mut [i16]) -> Result<(), Refusal>
         return Err(Refusal::Length(n as u64, dst.len() as u64));
     }
     for i in 0..n {
-        let coded = q15_tap(i as u64, src[i]);
-        match coded {
-            Ok(q) => {
-                dst[i] = q;
-            }
-            Err(why) => {
-                return Err(why);
-            }
-        }
+        dst[i] = q15_tap(i as u64, src[i])?;
     }
     Ok(())
 }

@@ -82,16 +82,11 @@ pub fn butterworth_sos(
 ) -> Result<(), Refusal>
     ensures { Fills (butterworth_of response order cutoff rate (length sos.old)) sos.old result sos.new }
 {
-    let judged = judge(response, order, cutoff, rate, sos.len() as u64);
-    match judged {
-        Ok(()) => {
-            let count = sections(order) as usize;
-            for i in 0..count {
-                let coefs = section_at(response, order, i as u64, cutoff, rate);
-                put_section(&mut *sos, 5 * i, coefs);
-            }
-            Ok(())
-        }
-        Err(why) => Err(why),
+    judge(response, order, cutoff, rate, sos.len() as u64)?;
+    let count = sections(order) as usize;
+    for i in 0..count {
+        let coefs = section_at(response, order, i as u64, cutoff, rate);
+        put_section(&mut *sos, 5 * i, coefs);
     }
+    Ok(())
 }

@@ -1,7 +1,6 @@
 // A whole card, read record by record.
 ghost use Rattle.ticket_card.specs.Cards.{Checks};
 
-use super::Reading;
 use super::reader::read;
 use verdict::Refusal;
 
@@ -23,11 +22,11 @@ pub fn check(src: &[u8]) -> Checked
     let mut tickets: u64 = 0;
     while at < len {
         match read(&src[at..]) {
-            Reading::Read(_, taken) => {
-                at += taken;
+            Ok(found) => {
+                at += found.taken;
                 tickets += 1;
             }
-            Reading::Refused(why) => {
+            Err(why) => {
                 return Checked {
                     tickets: tickets,
                     place: at,

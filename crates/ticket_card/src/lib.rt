@@ -2,15 +2,14 @@
 #![tactic(auto)]
 
 use ticket_kinds::Ticket;
-use verdict::Refusal;
 
 pub mod card;
 mod fields;
 pub mod reader;
 
-// What reading finds: a ticket with the number of bytes that its record takes, or why there is none.
+// What reading finds: a ticket, and how many bytes its record takes.
 #[derive(Clone, Copy)]
-pub enum Reading {
-    Read(Ticket, usize),
-    Refused(Refusal),
+pub struct Reading {
+    pub ticket: Ticket,
+    pub taken: usize,
 }

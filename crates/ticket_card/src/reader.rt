@@ -9,31 +9,31 @@ use verdict::{Reason, Refusal};
 // Reads the record that the bytes begin with. Refused, in this order: 12 fewer than six bytes; 13 a kind that isn't 1
 // to 6; 14 a length that isn't the kind's; 12 fewer bytes than the record takes; 7 a window above 3. No other field is
 // judged, and what follows the record doesn't matter.
-pub fn read(src: &[u8]) -> Reading
+pub fn read(src: &[u8]) -> Result<Reading, Refusal>
     ensures { result ≡ read_of src.now }
 {
     let len = src.len();
     if len < 6 {
-        return Reading::Refused(Refusal::Plain(Reason::CutShort));
+        return Err(Refusal::Plain(Reason::CutShort));
     }
     let kind = fields::kind_in(src);
     let count = field_count(kind);
     if count == 0 {
-        return Reading::Refused(Refusal::Plain(Reason::Kind));
+        return Err(Refusal::Plain(Reason::Kind));
     }
     let told = fields::length_in(src);
     if told != 2 + 8 * count {
-        return Reading::Refused(Refusal::Plain(Reason::RecordLength));
+        return Err(Refusal::Plain(Reason::RecordLength));
     }
     let size = (6 + 8 * count) as usize;
     if len < size {
-        return Reading::Refused(Refusal::Plain(Reason::CutShort));
+        return Err(Refusal::Plain(Reason::CutShort));
     }
-    let formed = ticket_of(fields::numbers_in(src, kind, count));
-    match formed {
-        Ok(t) => Reading::Read(t, size),
-        Err(why) => Reading::Refused(why),
-    }
+    let ticket = ticket_of(fields::numbers_in(src, kind, count))?;
+    Ok(Reading {
+        ticket,
+        taken: size,
+    })
 }
 
 // What stays unread: the part behind the record that the bytes begin with, or all of them where there is none.
@@ -41,7 +41,7 @@ pub fn unread(src: &[u8]) -> &[u8]
     ensures { result.now ≡ drop (taken_of (read_of src.now)) src.now }
 {
     match read(src) {
-        Reading::Read(_, taken) => &src[taken..],
-        Reading::Refused(_) => src,
+        Ok(found) => &src[found.taken..],
+        Err(_) => src,
     }
 }

@@ -63,16 +63,11 @@ pub fn loaded(count: u64, c: Cosines) -> Result<Cosines, Refusal>
     if count > 5 {
         return miscounted(count);
     }
-    let verdict = judge(c);
-    match verdict {
-        Ok(()) => {
-            if sums_to_one(c.c0, c.c1, c.c2, c.c3, c.c4) {
-                Ok(c)
-            } else {
-                Err(Refusal::Plain(Reason::CoefficientSum))
-            }
-        }
-        Err(why) => Err(why),
+    judge(c)?;
+    if sums_to_one(c.c0, c.c1, c.c2, c.c3, c.c4) {
+        Ok(c)
+    } else {
+        Err(Refusal::Plain(Reason::CoefficientSum))
     }
 }
 

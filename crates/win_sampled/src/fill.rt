@@ -13,18 +13,13 @@ pub fn fill_f32(shape: Shape, symmetry: Symmetry, out: &mut [f32]) -> Result<(),
     ensures { FillsWindow single_of shape symmetry out.old result out.new }
 {
     let n = out.len();
-    let judged = judge(shape, symmetry, n as u64);
-    match judged {
-        Ok(()) => {
-            let i0 = norm(shape);
-            let d = divisor(symmetry, n as u64);
-            for i in 0..n {
-                out[i] = fmt_f32::narrow::narrow(sample_at(shape, i0, d, i as u64));
-            }
-            Ok(())
-        }
-        Err(why) => Err(why),
+    judge(shape, symmetry, n as u64)?;
+    let i0 = norm(shape);
+    let d = divisor(symmetry, n as u64);
+    for i in 0..n {
+        out[i] = fmt_f32::narrow::narrow(sample_at(shape, i0, d, i as u64));
     }
+    Ok(())
 }
 
 // The same as Q15 numbers: 1 is held to 32767.
@@ -32,16 +27,11 @@ pub fn fill_q15(shape: Shape, symmetry: Symmetry, out: &mut [i16]) -> Result<(),
     ensures { FillsWindow q15_of shape symmetry out.old result out.new }
 {
     let n = out.len();
-    let judged = judge(shape, symmetry, n as u64);
-    match judged {
-        Ok(()) => {
-            let i0 = norm(shape);
-            let d = divisor(symmetry, n as u64);
-            for i in 0..n {
-                out[i] = fmt_q15::q15::q15_from_f64(sample_at(shape, i0, d, i as u64));
-            }
-            Ok(())
-        }
-        Err(why) => Err(why),
+    judge(shape, symmetry, n as u64)?;
+    let i0 = norm(shape);
+    let d = divisor(symmetry, n as u64);
+    for i in 0..n {
+        out[i] = fmt_q15::q15::q15_from_f64(sample_at(shape, i0, d, i as u64));
     }
+    Ok(())
 }

@@ -1,10 +1,12 @@
 -- `fmt_q15::q15::to_q15` meets its contract. The loop's invariant: the elements so far are taken, and their numbers
 -- stand at the front. Assumes nothing.
-use mathlib.Core.Path.{sym, ap, ◌∙◌}
+use Rattle.std.specs.Prelude.{Err}
+use Rattle.std.proofs.Common.{rules}
+use mathlib.Core.Path.{◌≡◌, sym, ap, ◌∙◌}
 use native.Mathlib.Nat.{mod-one}
 use native.Mathlib.Omega.{arith}
 use mir.Syntax.{w16}
-use mir.ValLaws.{to_z-of_z}
+use mir.Val.{to_z, of_z}
 use lib.IntN.{ℤ}
 use lib.ListN.{set, get_or}
 use lib.Ieee.{nan}
@@ -28,23 +30,21 @@ offset_bounds-dst-i c = record { fits = omega (arith, c.well_formed.1.0.1) }
 pub bounds-dst-i : goal.bounds-dst-i
 bounds-dst-i c = omega (arith, same_size c.loop-i.invariant.1 (omega arith))
 
-pub shape_of-dst-in-Err : goal.shape_of-dst-in-Err
-shape_of-dst-in-Err c = same_size c.loop-i.invariant.1 (omega arith)
-
-pub returns-in-Err : goal.returns-in-Err
-returns-in-Err c =
+pub returns-in_err-dst : goal.returns-in_err-dst
+returns-in_err-dst c =
     let s = c.args.src.now in
     let i = c.loop-i.i in
-    let t = tap_refused i (get_or s i nan) c.in-Err.why (sym c.q15_tap-coded.ensures ∙ c.in-Err.is) in
-    ends c.loop-i.invariant.1 (same_count 1 _ _ (mod-one _) (omega arith)) (stopped c.loop-i.invariant.1.taken (omega arith) t.0 t.1)
+    let refused : c.from_residual.result ≡ Err c.in_err-dst.field-0.0 = search rules in
+    let t = tap_refused i (get_or s i nan) _ (sym c.q15_tap.ensures ∙ c.in_err-dst.was) in
+    rw refused (ends c.loop-i.invariant.1 (same_count 1 _ _ (mod-one _) (omega arith)) (stopped c.loop-i.invariant.1.taken (omega arith) t.0 t.1))
 
 pub loop-i-preserved : goal.loop-i-preserved
 loop-i-preserved c =
     let s = c.args.src.now in
     let i = c.loop-i.i in
-    let q = c.in-Ok.q in
-    let t = tap_number i (get_or s i nan) q (sym c.q15_tap-coded.ensures ∙ c.in-Ok.is) in
-    let stored = to_z-of_z w16 q (record { sfits = c.in-Ok.known_told-1-own.given.0.1 }) in
+    let q = c.in_ok-dst.field-0 in
+    let t = tap_number i (get_or s i nan) q (sym c.q15_tap.ensures ∙ c.in_ok-dst.was) in
+    let stored : to_z w16 (of_z w16 q) ≡ q = search rules in
     (omega arith, one_more c.loop-i.invariant.1 (omega arith) (omega arith) t.0 (ap (λ (z : ℤ). set c.loop-i.dst i z) (stored ∙ sym t.1)))
 
 pub shape_of-dst : goal.shape_of-dst
