@@ -28,7 +28,7 @@ module _ {d : Design} {x : Result Lowpass Refusal} {before : List ℕ} {r : Tune
   pub left_so : {why : Refusal} → x ≡ Err why → r ≡ left_of d why → Tunes d x before r before
   left_so e told = record { writes = leaves (ap outcome_of e) (ap (λ (z : Tuned). z.report) told); design = ap (λ (z : Tuned). z.design) told ∙ sym (ap (afterwards d) e) }
 
-  -- the same_answer name
+  -- the same name
   pub tunes_as : {y : Result Lowpass Refusal} {after : List ℕ} → x ≡ y → Tunes d x before r after → Tunes d y before r after
   tunes_as {y} {after} e h = subst (λ (z : Result Lowpass Refusal). Tunes d z before r after) e h
 

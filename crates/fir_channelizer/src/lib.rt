@@ -5,6 +5,7 @@ ghost use Rattle.std.specs.Prelude.{◌≡◌, length};
 ghost use Rattle.fir_lowpass.specs.Cached.{PreparesLowpass};
 ghost use Rattle.fir_channelizer.specs.Channelizer.{channels_taken, branch_taken, stop_taken, attenuation_taken, edges_of, count_taken, channelizer_taps_of, branch_of, channelizer_lowpass_of, fitted_of};
 
+use fir_lowpass::lowpass::Lowpass;
 use fir_sinc::window::Window;
 use verdict::{Reason, Refusal};
 

@@ -7,7 +7,6 @@ use Rattle.fir_sinc.specs.declared.window.Window.{Window}
 use Rattle.fir_sinc.specs.declared.window.Window.TheVariants.{Hann, Hamming, Blackman, Kaiser, Cosines}
 use Rattle.fir_lowpass.specs.Lowpass.{lowpass_with, lowpass_of}
 use Rattle.fir_lowpass.specs.declared.lowpass.Lowpass.{Lowpass}
-use Rattle.fir_retune.specs.declared.Retuned.{Retuned}
 use Rattle.verdict.specs.declared.Refusal.{Refusal}
 use Rattle.verdict.specs.declared.Reason.TheVariants as Reason
 
@@ -35,6 +34,3 @@ kept_of l (Err why) = l
 abbrev pub verdict_of : Result Lowpass Refusal → Result (Unit {0}) Refusal
 verdict_of (Ok new) = Ok tt
 verdict_of (Err why) = Err why
-
-abbrev pub retuned_of : Lowpass → Result Lowpass Refusal → Retuned
-retuned_of l d = record { design = kept_of l d; verdict = verdict_of d }

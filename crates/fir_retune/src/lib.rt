@@ -4,18 +4,11 @@
 
 ghost use Rattle.std.specs.Prelude.{◌≡◌};
 ghost use Rattle.fir_lowpass.specs.Cached.{PreparesLowpass};
-ghost use Rattle.fir_retune.specs.Retune.{new_cutoff_of, new_beta_of, retuned_of};
+ghost use Rattle.fir_retune.specs.Retune.{new_cutoff_of, new_beta_of, kept_of, verdict_of};
 
 use fir_lowpass::lowpass::{Lowpass, prepare, prepare_with};
 use fir_sinc::window::Window;
 use verdict::{Reason, Refusal};
-
-// The record after a turn, and whether it was turned.
-#[derive(Clone, Copy)]
-pub struct Retuned {
-    pub design: Lowpass,
-    pub verdict: Result<(), Refusal>,
-}
 
 // The design with a new cutoff, given with its rate. The series at beta is the one that the record keeps. Refused as a
 // low-pass: 1, 2, 6, 4, 16, 10.
@@ -44,34 +37,22 @@ pub fn prepare_beta(lp: Lowpass, beta: f64, raws: &mut [f64]) -> Result<Lowpass,
     }
 }
 
-// The record after a turn that came to this: the new design, or as it was.
-fn turned(lp: Lowpass, designed: Result<Lowpass, Refusal>) -> Retuned
-    ensures { result ≡ retuned_of lp designed }
-{
-    match designed {
-        Ok(new) => Retuned {
-            design: new,
-            verdict: Ok(()),
-        },
-        Err(why) => Retuned {
-            design: lp,
-            verdict: Err(why),
-        },
-    }
-}
-
 // Turns the knob to a new cutoff, given with its rate; refused as `prepare_cutoff`, with the record as it was.
-pub fn new_cutoff(lp: Lowpass, cutoff: f64, rate: f64) -> Retuned
-    ensures { result ≡ retuned_of lp (new_cutoff_of lp cutoff rate) }
+pub fn new_cutoff(lp: &mut Lowpass, cutoff: f64, rate: f64) -> Result<(), Refusal>
+    ensures answer { result ≡ verdict_of (new_cutoff_of lp.old cutoff rate) }
+    ensures record_kept { lp.new ≡ kept_of lp.old (new_cutoff_of lp.old cutoff rate) }
 {
     let mut none = [0.0f64; 1];
-    turned(lp, prepare_cutoff(lp, cutoff, rate, &mut none))
+    *lp = prepare_cutoff(*lp, cutoff, rate, &mut none)?;
+    Ok(())
 }
 
 // Turns the knob to a new beta; refused as `prepare_beta`, with the record as it was.
-pub fn new_beta(lp: Lowpass, beta: f64) -> Retuned
-    ensures { result ≡ retuned_of lp (new_beta_of lp beta) }
+pub fn new_beta(lp: &mut Lowpass, beta: f64) -> Result<(), Refusal>
+    ensures answer { result ≡ verdict_of (new_beta_of lp.old beta) }
+    ensures record_kept { lp.new ≡ kept_of lp.old (new_beta_of lp.old beta) }
 {
     let mut none = [0.0f64; 1];
-    turned(lp, prepare_beta(lp, beta, &mut none))
+    *lp = prepare_beta(*lp, beta, &mut none)?;
+    Ok(())
 }

@@ -1,6 +1,7 @@
 -- An accepted design by a specification has as many taps as its buffer has elements. Assumes nothing.
 use Rattle.std.proofs.Common.{sym}
-use Rattle.std.specs.Prelude.{ℕ, Float}
+use Rattle.std.specs.Prelude.{ℕ, Float, Ok, Err, Result}
+use Rattle.verdict.specs.declared.Refusal.{Refusal}
 use Rattle.verdict.specs.Counted.{Counted, where_equal}
 use Rattle.fir_length.specs.declared.order.Order.{Order}
 use Rattle.fir_sinc.specs.declared.window.Window.TheVariants.{Kaiser}

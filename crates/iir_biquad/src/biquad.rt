@@ -14,13 +14,6 @@ pub enum Response {
     Notch,
 }
 
-// b0, b1, b2, a1, a2 with a0 = 1; zeros where refused.
-#[derive(Clone, Copy)]
-pub struct Biquad {
-    pub coefs: [f64; 5],
-    pub verdict: Result<(), Refusal>,
-}
-
 // Whether a centre lies between 0 and half of a finite rate.
 pub fn takes_centre(centre: f64, rate: f64) -> bool
     ensures { result ≡ centre_taken centre rate }
@@ -62,30 +55,21 @@ fn section(response: Response, c: f64, alpha: f64) -> [f64; 5]
     }
 }
 
-// The section for a centre frequency and a quality q at a rate: w0 = 2 π centre/rate, alpha = sin w0 / (2 q). Refused,
+// The section for a centre frequency and a quality q at a rate, b0, b1, b2, a1, a2 with a0 = 1: w0 = 2 π centre/rate, alpha = sin w0 / (2 q). Refused,
 // in this order: 2 with 0, rate/2, centre where the centre isn't between 0 and half of a finite rate, so a bad rate is
 // 2 too; 5 with 0, infinity, q where q isn't finite and positive.
-pub fn biquad_coefs(response: Response, centre: f64, q: f64, rate: f64) -> Biquad
+pub fn biquad_coefs(response: Response, centre: f64, q: f64, rate: f64) -> Result<[f64; 5], Refusal>
     ensures { result ≡ biquad_of response centre q rate }
 {
     if !takes_centre(centre, rate) {
-        return Biquad {
-            coefs: [0.0, 0.0, 0.0, 0.0, 0.0],
-            verdict: Err(Refusal::Range(Reason::Frequency, 0.0, rate / 2.0, centre)),
-        };
+        return Err(Refusal::Range(Reason::Frequency, 0.0, rate / 2.0, centre));
     }
     if !takes_quality(q) {
         let inf = 1.0 / 0.0;
-        return Biquad {
-            coefs: [0.0, 0.0, 0.0, 0.0, 0.0],
-            verdict: Err(Refusal::Range(Reason::Shape, 0.0, inf, q)),
-        };
+        return Err(Refusal::Range(Reason::Shape, 0.0, inf, q));
     }
     let w0 = 2.0 * PI * centre / rate;
     let c = math_trig::cos::cos(w0);
     let alpha = math_trig::sin::sin(w0) / (2.0 * q);
-    Biquad {
-        coefs: section(response, c, alpha),
-        verdict: Ok(()),
-    }
+    Ok(section(response, c, alpha))
 }

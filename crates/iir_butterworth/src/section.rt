@@ -55,6 +55,5 @@ pub(crate) fn section_at(response: Response, order: u64, i: u64, cutoff: f64, ra
         let s = math_trig::sin::sin(w0);
         return first_order(response, s, 1.0 + math_trig::cos::cos(w0));
     }
-    let b = biquad_coefs(response, cutoff, quality(order, i), rate);
-    b.coefs
+    biquad_coefs(response, cutoff, quality(order, i), rate).unwrap_or([0.0; 5])
 }

@@ -1,6 +1,6 @@
 -- `fir_channelizer::fitted` meets its contract. Assumes nothing.
-use Rattle.std.specs.Prelude.{Result}
-use Rattle.std.proofs.Common.{sym, ap, ◌∙◌, ne_eqb}
+use Rattle.std.specs.Prelude.{Result, Err}
+use Rattle.std.proofs.Common.{sym, ap, ◌∙◌, ne_eqb, rules, ◌≡◌}
 use Rattle.fir_lowpass.proofs.LowpassLaws.{prepares_refusal}
 use Rattle.fir_channelizer.specs.Channelizer.{fitted_of}
 use Rattle.fir_channelizer.specs.ChannelizerLaws.{fits_as}
@@ -8,15 +8,16 @@ use Rattle.fir_channelizer.proofs.fitted.Goals as goal
 use Rattle.verdict.specs.declared.Refusal.{Refusal}
 use Rattle.fir_lowpass.specs.declared.lowpass.Lowpass.{Lowpass}
 
-pub returns-then-n-len : goal.returns-then-n-len
-returns-then-n-len c = fits_as c.in-Ok.is c.if-n-len.true c.prepare-designed.ensures
+pub returns : goal.returns
+returns c = fits_as c.in_ok-lp.was c.if-lp-len.false c.prepare.ensures
 
-pub returns-else-n-len : goal.returns-else-n-len
-returns-else-n-len c =
+pub returns-then-lp-len : goal.returns-then-lp-len
+returns-then-lp-len c =
     let a = c.args in
-    prepares_refusal _ _ _ (ap (λ (z : Result Lowpass Refusal). fitted_of z a.len) (sym c.prepare-designed.ensures.is ∙ c.in-Ok.is) ∙ rw (ne_eqb c.in-Ok.lp.n a.len c.if-n-len.false))
+    prepares_refusal _ _ _ (ap (λ (z : Result Lowpass Refusal). fitted_of z a.len) (sym c.prepare.ensures.is ∙ c.in_ok-lp.was) ∙ rw (ne_eqb c.in_ok-lp.lp.n a.len c.if-lp-len.true))
 
-pub returns-in-Err : goal.returns-in-Err
-returns-in-Err c =
+pub returns-in_err-lp : goal.returns-in_err-lp
+returns-in_err-lp c =
     let a = c.args in
-    prepares_refusal _ _ _ (ap (λ (z : Result Lowpass Refusal). fitted_of z a.len) (sym c.prepare-designed.ensures.is ∙ c.in-Err.is))
+    let refused : c.from_residual.result ≡ Err c.in_err-lp.field-0.0 = search rules in
+    rw refused (prepares_refusal _ _ _ (ap (λ (z : Result Lowpass Refusal). fitted_of z a.len) (sym c.prepare.ensures.is ∙ c.in_err-lp.was)))

@@ -1,6 +1,6 @@
 -- `fir_channelizer::prepare` meets its contract: what each test says, and then an answer at a time. Assumes nothing.
 use Rattle.std.specs.Prelude.{Err, Ok, Result}
-use Rattle.std.proofs.Common.{◌≡◌, ◌*◌, true, sym, ap, ◌∙◌, arith}
+use Rattle.std.proofs.Common.{◌≡◌, ◌*◌, true, sym, ap, ◌∙◌, arith, rules}
 use lib.Ieee.{Float, of_bits, of_int}
 use Rattle.laws.specs.Binary64.{◌⊕◌, ◌⊗◌, ◌⊘◌, whole}
 use Rattle.fir_lowpass.specs.Lowpass.{where_passed, lowpass_of}
@@ -30,9 +30,9 @@ overflow_mul-channels c =
     let h = product_most a.channels a.branch past1 past2 in
     omega arith
 
-pub returns-in-Ok : goal.returns-in-Ok
+pub returns : goal.returns
 unfolding of_int of_bits
-returns-in-Ok c =
+returns c =
     let answer : (k : Result (Unit {0}) Refusal) → edges_of c.args.passband c.args.stopband c.args.attenuation ≡ k → channelizer_lowpass_of c.args.channels c.args.branch c.args.passband c.args.stopband c.args.attenuation ≡ where_passed k (prototype_of c.args.channels c.args.branch c.args.passband c.args.stopband c.args.attenuation) = let past1 : channels_taken c.args.channels ≡ true = sym c.takes_channels.ensures ∙ c.if-not-takes_channels.false in
     let past2 : branch_taken c.args.branch ≡ true = sym c.takes_branch.ensures ∙ c.if-not-takes_branch.false in
     λ k e. let a = c.args in
@@ -43,14 +43,15 @@ returns-in-Ok c =
     prepares_as
     (ap (λ (z : Float). lowpass_of ((a.passband ⊕ a.stopband) ⊘ (whole 2 ⊗ z)) (whole 1) (Kaiser c.kaiser_beta-beta.result) n) c.nearest_u64_to_f64.ensures
     ∙ ap (λ (z : Float). lowpass_of ((a.passband ⊕ a.stopband) ⊘ (whole 2 ⊗ whole a.channels)) (whole 1) (Kaiser z) n) c.kaiser_beta-beta.ensures
-    ∙ sym (answer (Ok tt) (sym c.check_edges-checked.ensures ∙ c.in-Ok.is)))
+    ∙ sym (answer (Ok tt) (sym c.check_edges.ensures ∙ c.in_ok-check_edges.was)))
     c.prepare.ensures
 
-pub returns-in-Err : goal.returns-in-Err
-returns-in-Err c =
+pub returns-in_err-check_edges : goal.returns-in_err-check_edges
+returns-in_err-check_edges c =
     let answer : (k : Result (Unit {0}) Refusal) → edges_of c.args.passband c.args.stopband c.args.attenuation ≡ k → channelizer_lowpass_of c.args.channels c.args.branch c.args.passband c.args.stopband c.args.attenuation ≡ where_passed k (prototype_of c.args.channels c.args.branch c.args.passband c.args.stopband c.args.attenuation) = let past1 : channels_taken c.args.channels ≡ true = sym c.takes_channels.ensures ∙ c.if-not-takes_channels.false in
     let past2 : branch_taken c.args.branch ≡ true = sym c.takes_branch.ensures ∙ c.if-not-takes_branch.false in
     λ k e. let a = c.args in
     by_edges a.channels a.branch a.passband a.stopband a.attenuation past1 past2
     ∙ ap (λ (z : Result (Unit {0}) Refusal). where_passed z (prototype_of a.channels a.branch a.passband a.stopband a.attenuation)) e in
-    prepares_refusal _ _ _ (answer (Err c.in-Err.why) (sym c.check_edges-checked.ensures ∙ c.in-Err.is))
+    let refused : c.from_residual.result ≡ Err c.in_err-check_edges.field-0.0 = search rules in
+    rw refused (prepares_refusal _ _ _ (answer (Err c.in_err-check_edges.field-0.0) (sym c.check_edges.ensures ∙ c.in_err-check_edges.was)))

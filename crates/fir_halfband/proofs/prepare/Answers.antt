@@ -1,4 +1,6 @@
 -- `fir_halfband::prepare` meets its contract: what each test says, and then an answer at a time. Assumes nothing.
+use Rattle.std.specs.Prelude.{Err}
+use Rattle.std.proofs.Common.{rules}
 use mathlib.Core.Path.{◌≡◌, sym, ap, ◌∙◌}
 use mathlib.Core.Bool.{true}
 use lib.Ieee.{of_bits, of_int, round}
@@ -17,29 +19,30 @@ pub returns-then-not-is_usable : goal.returns-then-not-is_usable
 unfolding of_int of_bits round divisor_of
 returns-then-not-is_usable c =
     let past : length_taken c.args.n ≡ true = sym c.takes_length.ensures ∙ c.if-not-takes_length.false in
-    let quarter : quarter_of c.args.beta c.args.n ≡ c.prepare-designed.result = sym c.prepare-designed.ensures.is in
-    let lowpass : Lowpass = c.in-Ok.lp in
-    let divided : c.total-sum.result ≡ divisor_of lowpass c.args.n = c.total-sum.ensures (c.prepare-designed.ensures.raws lowpass c.in-Ok.is) in
+    let quarter : quarter_of c.args.beta c.args.n ≡ c.prepare.result = sym c.prepare.ensures.is in
+    let lowpass : Lowpass = c.in_ok-lp.lp in
+    let divided : c.total-sum.result ≡ divisor_of lowpass c.args.n = c.total-sum.ensures (c.prepare.ensures.raws lowpass c.in_ok-lp.was) in
     let a = c.args in
     refuses a.beta a.n _ _
-    (no_divisor a.beta a.n past lowpass (quarter ∙ c.in-Ok.is) (ap usable (sym divided) ∙ sym c.is_usable.ensures ∙ c.if-not-is_usable.true))
+    (no_divisor a.beta a.n past lowpass (quarter ∙ c.in_ok-lp.was) (ap usable (sym divided) ∙ sym c.is_usable.ensures ∙ c.if-not-is_usable.true))
 
-pub returns-else-not-is_usable : goal.returns-else-not-is_usable
+pub returns : goal.returns
 unfolding of_int of_bits round divisor_of
-returns-else-not-is_usable c =
+returns c =
     let past : length_taken c.args.n ≡ true = sym c.takes_length.ensures ∙ c.if-not-takes_length.false in
-    let quarter : quarter_of c.args.beta c.args.n ≡ c.prepare-designed.result = sym c.prepare-designed.ensures.is in
-    let lowpass : Lowpass = c.in-Ok.lp in
-    let divided : c.total-sum.result ≡ divisor_of lowpass c.args.n = c.total-sum.ensures (c.prepare-designed.ensures.raws lowpass c.in-Ok.is) in
+    let quarter : quarter_of c.args.beta c.args.n ≡ c.prepare.result = sym c.prepare.ensures.is in
+    let lowpass : Lowpass = c.in_ok-lp.lp in
+    let divided : c.total-sum.result ≡ divisor_of lowpass c.args.n = c.total-sum.ensures (c.prepare.ensures.raws lowpass c.in_ok-lp.was) in
     let a = c.args in
-    let e = c.in-Ok.is in
-    accepts a.beta a.n lowpass c.total-sum.result _ divided (c.prepare-designed.ensures.raws lowpass e)
+    let e = c.in_ok-lp.was in
+    accepts a.beta a.n lowpass c.total-sum.result _ divided (c.prepare.ensures.raws lowpass e)
     (ready a.beta a.n past lowpass (quarter ∙ e) (ap usable (sym divided) ∙ sym c.is_usable.ensures ∙ c.if-not-is_usable.false))
 
-pub returns-in-Err : goal.returns-in-Err
+pub returns-in_err-lp : goal.returns-in_err-lp
 unfolding of_int of_bits round
-returns-in-Err c =
+returns-in_err-lp c =
     let past : length_taken c.args.n ≡ true = sym c.takes_length.ensures ∙ c.if-not-takes_length.false in
-    let quarter : quarter_of c.args.beta c.args.n ≡ c.prepare-designed.result = sym c.prepare-designed.ensures.is in
+    let quarter : quarter_of c.args.beta c.args.n ≡ c.prepare.result = sym c.prepare.ensures.is in
     let a = c.args in
-    refuses a.beta a.n c.in-Err.why _ (no_lowpass a.beta a.n past c.in-Err.why (quarter ∙ c.in-Err.is))
+    let refused : c.from_residual.result ≡ Err c.in_err-lp.field-0.0 = search rules in
+    rw refused (refuses a.beta a.n c.in_err-lp.field-0.0 _ (no_lowpass a.beta a.n past c.in_err-lp.field-0.0 (quarter ∙ c.in_err-lp.was)))

@@ -1,25 +1,28 @@
 -- `fir_spec::spec_prepare` meets its contract. Assumes nothing.
-use mathlib.Core.Path.{sym, ap, ◌∙◌}
+use Rattle.std.specs.Prelude.{Err}
+use Rattle.std.proofs.Common.{◌≡◌, sym, ap, ◌∙◌, rules}
 use borrow.Author.Tests.{eq-eqb, ne_eqb}
-use lib.Ieee.{of_bits, of_int}
 use Rattle.fir_lowpass.proofs.LowpassLaws.{prepares_as, prepares_refusal}
 use Rattle.fir_spec.specs.Spec.{design_in, spec_design_of}
 use Rattle.fir_spec.proofs.spec_prepare.Goals as goal
+
+pub returns-in_err-order : goal.returns-in_err-order
+unfolding spec_design_of
+returns-in_err-order c =
+    let a = c.args in
+    let refused : c.from_residual.result ≡ Err c.in_err-order.field-0.0 = search rules in
+    rw refused (prepares_refusal _ _ _ (ap (design_in a.spec a.rate a.len) (sym c.spec_order.ensures ∙ c.in_err-order.was)))
 
 pub returns-then-n-len : goal.returns-then-n-len
 unfolding spec_design_of
 returns-then-n-len c =
     let a = c.args in
-    prepares_as (sym (ap (design_in a.spec a.rate a.len) (sym c.spec_order-order.ensures ∙ c.in-Ok.is) ∙ rw (eq-eqb c.in-Ok.n a.len c.if-n-len.true))) c.prepare.ensures
+    let o = c.in_ok-order.order in
+    prepares_refusal _ _ _ (ap (design_in a.spec a.rate a.len) (sym c.spec_order.ensures ∙ c.in_ok-order.was) ∙ rw (ne_eqb o.taps a.len c.if-n-len.true))
 
-pub returns-else-n-len : goal.returns-else-n-len
-unfolding spec_design_of of_int of_bits
-returns-else-n-len c =
+pub returns : goal.returns
+unfolding spec_design_of
+returns c =
     let a = c.args in
-    prepares_refusal _ _ _ (ap (design_in a.spec a.rate a.len) (sym c.spec_order-order.ensures ∙ c.in-Ok.is) ∙ rw (ne_eqb c.in-Ok.n a.len c.if-n-len.false))
-
-pub returns-in-Err : goal.returns-in-Err
-unfolding spec_design_of of_int of_bits
-returns-in-Err c =
-    let a = c.args in
-    prepares_refusal _ _ _ (ap (design_in a.spec a.rate a.len) (sym c.spec_order-order.ensures ∙ c.in-Err.is))
+    let o = c.in_ok-order.order in
+    prepares_as (sym (ap (design_in a.spec a.rate a.len) (sym c.spec_order.ensures ∙ c.in_ok-order.was) ∙ rw (eq-eqb o.taps a.len c.if-n-len.false))) c.prepare.ensures

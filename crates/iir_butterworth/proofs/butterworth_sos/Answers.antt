@@ -1,5 +1,7 @@
 -- `iir_butterworth::butterworth_sos` meets its contract: what `judge` answers, and then the loop. Its invariant: the
 -- sections so far stand at the front. Assumes nothing.
+use Rattle.std.specs.Prelude.{Err}
+use Rattle.std.proofs.Common.{rules}
 use mathlib.Core.Path.{◌≡◌, sym, ap, ◌∙◌}
 use mathlib.Core.List.{List}
 use Prim.Native.Nat.{ℕ, ◌*◌, ◌≤◌}
@@ -15,7 +17,7 @@ use Rattle.iir_butterworth.proofs.butterworth_sos.Goals as goal
 
 pub sections-count-requires : goal.sections-count-requires
 sections-count-requires c =
-    let told : (let a = c.args in Right a.response a.order a.cutoff a.rate (length a.sos.now)) = let a = c.args in right a.response a.order a.cutoff a.rate (length a.sos.now) (sym c.in-Ok.is ∙ c.judge-judged.ensures) in
+    let told : (let a = c.args in Right a.response a.order a.cutoff a.rate (length a.sos.now)) = let a = c.args in right a.response a.order a.cutoff a.rate (length a.sos.now) (sym c.in_ok-judge.was ∙ c.judge.ensures) in
     told.taken.most
 
 pub loop-i-init : goal.loop-i-init
@@ -23,7 +25,7 @@ loop-i-init c = (omega arith, fill_none _ _)
 
 pub section_at-coefs-requires : goal.section_at-coefs-requires
 section_at-coefs-requires c =
-    let told : (let a = c.args in Right a.response a.order a.cutoff a.rate (length a.sos.now)) = let a = c.args in right a.response a.order a.cutoff a.rate (length a.sos.now) (sym c.in-Ok.is ∙ c.judge-judged.ensures) in
+    let told : (let a = c.args in Right a.response a.order a.cutoff a.rate (length a.sos.now)) = let a = c.args in right a.response a.order a.cutoff a.rate (length a.sos.now) (sym c.in_ok-judge.was ∙ c.judge.ensures) in
     let few : c.sections-count.result ≤ 4 = let o = told.taken in
     omega arith in
     let n = few in
@@ -31,14 +33,14 @@ section_at-coefs-requires c =
 
 pub overflow_mul-i : goal.overflow_mul-i
 overflow_mul-i c =
-    let told : (let a = c.args in Right a.response a.order a.cutoff a.rate (length a.sos.now)) = let a = c.args in right a.response a.order a.cutoff a.rate (length a.sos.now) (sym c.in-Ok.is ∙ c.judge-judged.ensures) in
+    let told : (let a = c.args in Right a.response a.order a.cutoff a.rate (length a.sos.now)) = let a = c.args in right a.response a.order a.cutoff a.rate (length a.sos.now) (sym c.in_ok-judge.was ∙ c.judge.ensures) in
     let few : c.sections-count.result ≤ 4 = let o = told.taken in
     omega arith in
     let n = few in omega arith
 
 pub put_section-requires : goal.put_section-requires
 put_section-requires c =
-    let told : (let a = c.args in Right a.response a.order a.cutoff a.rate (length a.sos.now)) = let a = c.args in right a.response a.order a.cutoff a.rate (length a.sos.now) (sym c.in-Ok.is ∙ c.judge-judged.ensures) in
+    let told : (let a = c.args in Right a.response a.order a.cutoff a.rate (length a.sos.now)) = let a = c.args in right a.response a.order a.cutoff a.rate (length a.sos.now) (sym c.in_ok-judge.was ∙ c.judge.ensures) in
     let counted : c.sections-count.result * 5 ≡ length c.args.sos.now = let t = told in ap (λ (n : ℕ). n * 5) c.sections-count.ensures ∙ sym t.count in
     let as_long : length c.loop-i.sos ≡ length c.args.sos.now = let n = counted in
     ap length c.loop-i.invariant.1 ∙ length_filled _ _ _ (omega arith) in
@@ -48,14 +50,14 @@ put_section-requires c =
 
 pub overflow_step-i : goal.overflow_step-i
 overflow_step-i c =
-    let told : (let a = c.args in Right a.response a.order a.cutoff a.rate (length a.sos.now)) = let a = c.args in right a.response a.order a.cutoff a.rate (length a.sos.now) (sym c.in-Ok.is ∙ c.judge-judged.ensures) in
+    let told : (let a = c.args in Right a.response a.order a.cutoff a.rate (length a.sos.now)) = let a = c.args in right a.response a.order a.cutoff a.rate (length a.sos.now) (sym c.in_ok-judge.was ∙ c.judge.ensures) in
     let few : c.sections-count.result ≤ 4 = let o = told.taken in
     omega arith in
     let n = few in omega arith
 
 pub loop-i-preserved : goal.loop-i-preserved
 loop-i-preserved c =
-    let told : (let a = c.args in Right a.response a.order a.cutoff a.rate (length a.sos.now)) = let a = c.args in right a.response a.order a.cutoff a.rate (length a.sos.now) (sym c.in-Ok.is ∙ c.judge-judged.ensures) in
+    let told : (let a = c.args in Right a.response a.order a.cutoff a.rate (length a.sos.now)) = let a = c.args in right a.response a.order a.cutoff a.rate (length a.sos.now) (sym c.in_ok-judge.was ∙ c.judge.ensures) in
     let counted : c.sections-count.result * 5 ≡ length c.args.sos.now = let t = told in ap (λ (n : ℕ). n * 5) c.sections-count.ensures ∙ sym t.count in
     let a = c.args in
     let n = counted in
@@ -69,15 +71,15 @@ loop-i-preserved c =
 
 pub shape_of-sos : goal.shape_of-sos
 shape_of-sos c =
-    let told : (let a = c.args in Right a.response a.order a.cutoff a.rate (length a.sos.now)) = let a = c.args in right a.response a.order a.cutoff a.rate (length a.sos.now) (sym c.in-Ok.is ∙ c.judge-judged.ensures) in
+    let told : (let a = c.args in Right a.response a.order a.cutoff a.rate (length a.sos.now)) = let a = c.args in right a.response a.order a.cutoff a.rate (length a.sos.now) (sym c.in_ok-judge.was ∙ c.judge.ensures) in
     let counted : c.sections-count.result * 5 ≡ length c.args.sos.now = let t = told in ap (λ (n : ℕ). n * 5) c.sections-count.ensures ∙ sym t.count in
     let as_long : length c.loop-i.sos ≡ length c.args.sos.now = let n = counted in
     ap length c.loop-i.invariant.1 ∙ length_filled _ _ _ (omega arith) in
     as_long
 
-pub returns-after-loop-i : goal.returns-after-loop-i
-returns-after-loop-i c =
-    let told : (let a = c.args in Right a.response a.order a.cutoff a.rate (length a.sos.now)) = let a = c.args in right a.response a.order a.cutoff a.rate (length a.sos.now) (sym c.in-Ok.is ∙ c.judge-judged.ensures) in
+pub returns : goal.returns
+returns c =
+    let told : (let a = c.args in Right a.response a.order a.cutoff a.rate (length a.sos.now)) = let a = c.args in right a.response a.order a.cutoff a.rate (length a.sos.now) (sym c.in_ok-judge.was ∙ c.judge.ensures) in
     let counted : c.sections-count.result * 5 ≡ length c.args.sos.now = let t = told in ap (λ (n : ℕ). n * 5) c.sections-count.ensures ∙ sym t.count in
     let a = c.args in
     let t = told in
@@ -86,5 +88,7 @@ returns-after-loop-i c =
     let f = coef_at a.response a.order a.cutoff a.rate in
     fills t.is (c.loop-i.invariant.1 ∙ fill_all (5 * c.loop-i.i) f a.sos.now (omega arith) ∙ ap (λ (k : ℕ). tabulate k f) n)
 
-pub returns-in-Err : goal.returns-in-Err
-returns-in-Err c = leaves _ (turned _ _ (sym c.in-Err.is ∙ c.judge-judged.ensures))
+pub returns-in_err-judge : goal.returns-in_err-judge
+returns-in_err-judge c =
+    let refused : c.from_residual.result ≡ Err c.in_err-judge.field-0.0 = search rules in
+    rw refused (leaves _ (turned _ _ (sym c.in_err-judge.was ∙ c.judge.ensures)))

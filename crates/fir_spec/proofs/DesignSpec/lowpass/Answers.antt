@@ -1,16 +1,12 @@
 -- `fir_spec::DesignSpec::lowpass` meets its contract. Assumes nothing.
-use mathlib.Core.Path.{sym, ap, ◌∙◌}
-use Rattle.fir_spec.specs.Spec.{lowpass_in, spec_lowpass_of}
+use Rattle.std.proofs.Common.{rules}
+use Rattle.fir_spec.specs.Spec.{spec_lowpass_of}
 use Rattle.fir_spec.proofs.DesignSpec.lowpass.Goals as goal
 
-pub returns-in-Ok : goal.returns-in-Ok
+pub returns-in_err-order : goal.returns-in_err-order
 unfolding spec_lowpass_of
-returns-in-Ok c =
-    let a = c.args in
-    c.new.ensures ∙ sym (ap (lowpass_in a.self a.rate) (sym c.spec_order-order.ensures ∙ c.in-Ok.is))
+returns-in_err-order c = search rules
 
-pub returns-in-Err : goal.returns-in-Err
+pub returns : goal.returns
 unfolding spec_lowpass_of
-returns-in-Err c =
-    let a = c.args in
-    sym (ap (lowpass_in a.self a.rate) (sym c.spec_order-order.ensures ∙ c.in-Err.is))
+returns c = search rules

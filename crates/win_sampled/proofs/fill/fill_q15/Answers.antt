@@ -1,5 +1,6 @@
 -- `win_sampled::fill::fill_q15` meets its contract; FillLaws has what it shares with the fill of f32s. Assumes nothing.
-use Rattle.std.proofs.Common.{ap, ◌∙◌, arith, w16}
+use Rattle.std.specs.Prelude.{Err}
+use Rattle.std.proofs.Common.{ap, ◌∙◌, arith, w16, rules, ◌≡◌}
 use mir.ValLaws.{to_z-of_z}
 use Rattle.fmt_q15.specs.Q15.{q15_of}
 use Rattle.win_sampled.proofs.FillLaws.{fill_start, same_size, fill_next, fill_done, fill_refused}
@@ -17,8 +18,10 @@ loop-i-preserved c = fill_next c.loop-i.invariant (omega arith) (to_z-of_z w16 c
 pub shape_of-out : goal.shape_of-out
 shape_of-out c = same_size c.loop-i.invariant
 
-pub returns-after-loop-i : goal.returns-after-loop-i
-returns-after-loop-i c = fill_done c.loop-i.invariant c.judge-judged.ensures c.in-Ok.is c.norm-i0.ensures c.divisor-d.ensures (omega arith)
+pub returns : goal.returns
+returns c = fill_done c.loop-i.invariant c.judge.ensures c.in_ok-judge.was c.norm-i0.ensures c.divisor-d.ensures (omega arith)
 
-pub returns-in-Err : goal.returns-in-Err
-returns-in-Err c = fill_refused c.judge-judged.ensures c.in-Err.is
+pub returns-in_err-judge : goal.returns-in_err-judge
+returns-in_err-judge c =
+    let refused : c.from_residual.result ≡ Err c.in_err-judge.field-0.0 = search rules in
+    rw refused (fill_refused c.judge.ensures c.in_err-judge.was)

@@ -1,7 +1,7 @@
 -- `fir_rrc::design::Rrc::new` meets its contract: the roll-off first, and then by what came of the length. Assumes
 -- nothing.
 use Rattle.std.specs.Prelude.{Err, Ok, Result, ℕ}
-use Rattle.std.proofs.Common.{◌≡◌, sym, ap, ◌∙◌, arith}
+use Rattle.std.proofs.Common.{◌≡◌, sym, ap, ◌∙◌, arith, rules}
 use lib.Ieee.{of_bits, of_int, round}
 use Rattle.fir_rrc.specs.Rrc.{rrc_in, rrc_of}
 use Rattle.fir_rrc.specs.RrcLaws.{few, by_length, ready, no_rolloff}
@@ -17,23 +17,24 @@ returns-then-not-takes_rolloff c =
 pub energy-requires : goal.energy-requires
 energy-requires c =
     let a = c.args in
-    let f = few a.sps a.span c.in-Ok.n (sym c.rrc_len-length.ensures ∙ c.in-Ok.is) in
+    let f = few a.sps a.span c.in_ok-n.n (sym c.rrc_len.ensures ∙ c.in_ok-n.was) in
     let s = f.samples in
     let t = f.taps in
     record { n_high = omega arith; sps_high = omega arith }
 
-pub returns-in-Ok : goal.returns-in-Ok
+pub returns : goal.returns
 unfolding of_int of_bits
-returns-in-Ok c =
-    let answer : (k : Result ℕ Refusal) → c.rrc_len-length.result ≡ k → rrc_of c.args.rolloff c.args.sps c.args.span ≡ rrc_in c.args.rolloff c.args.sps k = λ k e. let a = c.args in
+returns c =
+    let answer : (k : Result ℕ Refusal) → c.rrc_len.result ≡ k → rrc_of c.args.rolloff c.args.sps c.args.span ≡ rrc_in c.args.rolloff c.args.sps k = λ k e. let a = c.args in
     by_length a.rolloff a.sps a.span (sym c.takes_rolloff.ensures ∙ c.if-not-takes_rolloff.false)
-    ∙ ap (rrc_in a.rolloff a.sps) (sym c.rrc_len-length.ensures ∙ e) in
+    ∙ ap (rrc_in a.rolloff a.sps) (sym c.rrc_len.ensures ∙ e) in
     let a = c.args in
-    ready a.rolloff a.sps c.in-Ok.n c.energy.ensures c.sqrt-norm.ensures ∙ sym (answer (Ok c.in-Ok.n) c.in-Ok.is)
+    ready a.rolloff a.sps c.in_ok-n.n c.energy.ensures c.sqrt-norm.ensures ∙ sym (answer (Ok c.in_ok-n.n) c.in_ok-n.was)
 
-pub returns-in-Err : goal.returns-in-Err
-returns-in-Err c =
-    let answer : (k : Result ℕ Refusal) → c.rrc_len-length.result ≡ k → rrc_of c.args.rolloff c.args.sps c.args.span ≡ rrc_in c.args.rolloff c.args.sps k = λ k e. let a = c.args in
+pub returns-in_err-n : goal.returns-in_err-n
+returns-in_err-n c =
+    let answer : (k : Result ℕ Refusal) → c.rrc_len.result ≡ k → rrc_of c.args.rolloff c.args.sps c.args.span ≡ rrc_in c.args.rolloff c.args.sps k = λ k e. let a = c.args in
     by_length a.rolloff a.sps a.span (sym c.takes_rolloff.ensures ∙ c.if-not-takes_rolloff.false)
-    ∙ ap (rrc_in a.rolloff a.sps) (sym c.rrc_len-length.ensures ∙ e) in
-    sym (answer (Err c.in-Err.why) c.in-Err.is)
+    ∙ ap (rrc_in a.rolloff a.sps) (sym c.rrc_len.ensures ∙ e) in
+    let refused : c.from_residual.result ≡ Err c.in_err-n.field-0.0 = search rules in
+    rw refused (sym (answer (Err c.in_err-n.field-0.0) c.in_err-n.was))

@@ -1,7 +1,0 @@
--- `fir_retune::new_beta` meets its contract. Assumes nothing.
-use mathlib.Core.Path.{ap, ◌∙◌}
-use Rattle.fir_retune.specs.Retune.{retuned_of}
-use Rattle.fir_retune.proofs.new_beta.Goals as goal
-
-pub returns : goal.returns
-returns c = c.turned.ensures ∙ ap (retuned_of c.args.lp) c.prepare_beta.ensures.is
