@@ -5,8 +5,7 @@ ghost use Rattle.fir_length.specs.Kaiser.{order_of, halfband_len_of};
 ghost use Rattle.verdict.specs.Reports.{length_report};
 ghost use Rattle.c_math.specs.Reports.{order_report, delay_report};
 
-use fir_length::order::Order;
-use verdict::{Report};
+use verdict::Report;
 
 // Kaiser's estimate for a ripple in dB: the taps as the count, 1 to 16777217 and odd, and beta as the value. Refused: 4
 // where the ripple's size isn't finite or is below 8; 3 where 2 transition / rate isn't finite and positive; 3 with 0,
@@ -14,9 +13,8 @@ use verdict::{Report};
 pub fn pel_kaiserord(ripple: f64, transition: f64, rate: f64) -> Report
     ensures { result ≡ order_report (order_of ripple transition rate) }
 {
-    let order = fir_length::order::kaiserord(ripple, transition, rate);
-    match order {
-        Order::Taps(n, beta) => Report::accepted(n, beta),
+    match fir_length::order::kaiserord(ripple, transition, rate) {
+        Ok(order) => Report::accepted(order.taps, order.beta),
         Err(why) => Report::from(why),
     }
 }
@@ -34,9 +32,5 @@ pub fn pel_halfband_len(transition: f64, attenuation: f64, rate: f64) -> Report
 pub fn pel_delay(taps: u64) -> Report
     ensures { result ≡ delay_report (delay_of taps) }
 {
-    let delayed = fir_delay::delay(taps);
-    match delayed {
-        Ok(n) => Report::accepted(n, 0.0),
-        Err(why) => Report::from(why),
-    }
+    Report::from(fir_delay::delay(taps))
 }

@@ -4,7 +4,7 @@ ghost use Rattle.math_bessel.specs.Series.{series_of};
 ghost use Rattle.fir_length.specs.Kaiser.{beta_of};
 ghost use Rattle.c_math.specs.Reports.{series_report};
 
-use verdict::{NOT_SETTLED, Report};
+use verdict::{Reason, Report};
 
 // I0(x): its value, and as the count how many terms it took, 1 to 500. Where it hasn't settled the number is 16, and
 // both are told all the same: NaN gives NaN and an infinity gives infinity, after 500 terms; a sum that overflows is
@@ -13,20 +13,13 @@ pub fn pel_bessel_i0(x: f64) -> Report
     ensures { result ≡ series_report (series_of x) }
 {
     let s = math_bessel::bessel_i0(x);
+    let told = Report::accepted(s.terms, s.sum);
     if s.settled {
-        return Report::accepted(s.terms, s.sum);
+        return told;
     }
     Report {
-        number: NOT_SETTLED,
-        carries: 0,
-        smallest: 0.0,
-        largest: 0.0,
-        offered: 0.0,
-        expected: 0,
-        given: 0,
-        index: 0,
-        count: s.terms,
-        value: s.sum,
+        number: u32::from(Reason::Unsettled),
+        ..told
     }
 }
 

@@ -13,14 +13,9 @@ pub fn gaussian(bt: f64, sps: u64, span: u64, taps: &mut [f64]) -> Result<(), Re
 {
     let n = taps.len();
     let mut none = [0.0f64; 0];
-    let designed = fitted(bt, sps, span, n as u64, &mut none);
-    match designed {
-        Ok(g) => {
-            for i in 0..n {
-                taps[i] = g.tap(i as u64);
-            }
-            Ok(())
-        }
-        Err(why) => Err(why),
+    let g = fitted(bt, sps, span, n as u64, &mut none)?;
+    for i in 0..n {
+        taps[i] = g.tap(i as u64);
     }
+    Ok(())
 }

@@ -12,14 +12,9 @@ pub fn halfband_taps(beta: f64, taps: &mut [f64]) -> Result<(), Refusal>
     ensures { Fills (halfband_taps_of beta (length taps.old)) taps.old result taps.new }
 {
     let n = taps.len();
-    let designed = HalfbandDesign::new(beta, n as u64);
-    match designed {
-        Ok(d) => {
-            for k in 0..n {
-                taps[k] = d.tap(k as u64);
-            }
-            Ok(())
-        }
-        Err(why) => Err(why),
+    let d = HalfbandDesign::new(beta, n as u64)?;
+    for k in 0..n {
+        taps[k] = d.tap(k as u64);
     }
+    Ok(())
 }

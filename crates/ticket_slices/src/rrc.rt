@@ -12,14 +12,9 @@ pub fn rrc(rolloff: f64, sps: u64, span: u64, taps: &mut [f64]) -> Result<(), Re
     ensures { Fills (outcome_of (fitted_of (rrc_of rolloff sps span) (length taps.old))) taps.old result taps.new }
 {
     let n = taps.len();
-    let designed = fitted(rolloff, sps, span, n as u64);
-    match designed {
-        Ok(d) => {
-            for k in 0..n {
-                taps[k] = d.tap(k as u64);
-            }
-            Ok(())
-        }
-        Err(why) => Err(why),
+    let d = fitted(rolloff, sps, span, n as u64)?;
+    for k in 0..n {
+        taps[k] = d.tap(k as u64);
     }
+    Ok(())
 }

@@ -14,8 +14,8 @@ unsettled_told : (s : Series) → s.settled ≡ false → unsettled_of s.terms s
 unsettled_told s e = sym (rw e)
 
 pub returns-then-s : goal.returns-then-s
-returns-then-s c = c.accepted.ensures ∙ settled_told c.bessel_i0-s.result c.if-s.true ∙ ap series_report c.bessel_i0-s.ensures
+returns-then-s c = c.accepted-told.ensures ∙ settled_told c.bessel_i0-s.result c.if-s.true ∙ ap series_report c.bessel_i0-s.ensures
 
 pub returns : goal.returns
-unfolding of_int of_bits
-returns c = unsettled_told c.bessel_i0-s.result c.if-s.false ∙ ap series_report c.bessel_i0-s.ensures
+unfolding accepted_of of_int of_bits
+returns c = rw (c.from.ensures, c.accepted-told.ensures) (unsettled_told c.bessel_i0-s.result c.if-s.false ∙ ap series_report c.bessel_i0-s.ensures)

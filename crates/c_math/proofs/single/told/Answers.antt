@@ -1,7 +1,6 @@
 -- `c_math::single::told` meets its contract: the number that it is told of has 16 bits. Assumes nothing.
-use mathlib.Core.Path.{sym, ap, ◌∙◌}
-use mir.Syntax.{w16}
-use mir.ValLaws.{to_z-of_z}
+use Rattle.std.proofs.Common.{◌≡◌, sym, ap, ◌∙◌, rules, w16}
+use mir.Val.{to_z, of_z}
 use lib.IntN.{ℤ}
 use lib.Ieee.{binary64, of_int}
 use Rattle.verdict.specs.Report.{accepted_of}
@@ -10,7 +9,7 @@ use Rattle.c_math.proofs.single.told.Goals as goal
 
 pub returns-in-Ok : goal.returns-in-Ok
 returns-in-Ok c =
-    let held = to_z-of_z w16 c.in-Ok.q (record { sfits = c.in-Ok.known_told-1-own.given.0.1 }) in
+    let held : to_z w16 (of_z w16 c.in-Ok.q) ≡ c.in-Ok.q = search rules in
     c.accepted.ensures ∙ ap (λ (z : ℤ). accepted_of 0 (of_int binary64 z)) held ∙ ap coded_report (sym c.in-Ok.is)
 
 pub returns-in-Err : goal.returns-in-Err
