@@ -32,7 +32,7 @@ pub fn pel_read_ticket(src: &[u8]) -> TicketRead
             let report = Report::accepted(taken as u64, 0.0);
             TicketRead {
                 ticket: numbers,
-                report: report,
+                report,
             }
         }
         Reading::Refused(why) => {
@@ -46,7 +46,7 @@ pub fn pel_read_ticket(src: &[u8]) -> TicketRead
                     fourth: 0,
                     fifth: 0,
                 },
-                report: report,
+                report,
             }
         }
     }
@@ -82,6 +82,6 @@ pub fn pel_check_card(src: &[u8]) -> CardChecked
     CardChecked {
         tickets: checked.tickets,
         place: checked.place as u64,
-        report: report,
+        report,
     }
 }

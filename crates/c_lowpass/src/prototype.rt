@@ -10,7 +10,7 @@ ghost use Rattle.c_lowpass.specs.Prototype.{channelizer_bytes};
 use super::told::told_lowpass;
 use fir_cache::CACHED;
 use ticket_bytes::lowpasses::put_prototype;
-use verdict::{Report};
+use verdict::Report;
 
 // How many taps Kaiser's estimate has for band edges in channel spacings and an attenuation in dB, as the count; not
 // made odd. Refused, in this order: 6 channels that aren't a power of two from 4 to 256; 2 a passband that isn't finite

@@ -11,7 +11,7 @@ use super::told::told_lowpass;
 use fir_cache::CACHED;
 use fir_spec::DesignSpec;
 use ticket_bytes::lowpasses::put_spec;
-use verdict::{Report};
+use verdict::Report;
 
 // How many taps the specification needs, as the count: odd, at most the cap. The transition lies around the cutoff, the
 // attenuation in dB beyond it.
@@ -30,9 +30,9 @@ pub fn pel_spec_num_taps(
     ensures { result ≡ length_report (num_taps_of (spec_of cutoff transition attenuation) rate cap) }
 {
     let spec = DesignSpec {
-        cutoff: cutoff,
-        transition: transition,
-        attenuation: attenuation,
+        cutoff,
+        transition,
+        attenuation,
     };
     Report::from(spec.num_taps(rate, cap))
 }
@@ -50,9 +50,9 @@ pub fn pel_spec_lowpass(
     ensures { result ≡ outcome_report (outcome_of (spec_lowpass_of (spec_of cutoff transition attenuation) rate cap)) }
 {
     let spec = DesignSpec {
-        cutoff: cutoff,
-        transition: transition,
-        attenuation: attenuation,
+        cutoff,
+        transition,
+        attenuation,
     };
     told_lowpass(spec.lowpass(rate, cap))
 }
@@ -72,9 +72,9 @@ pub fn pel_spec_design(
     ensures { Writes float_bytes (spec_bytes (spec_of cutoff transition attenuation) rate cap (length out.old)) out.old result out.new }
 {
     let spec = DesignSpec {
-        cutoff: cutoff,
-        transition: transition,
-        attenuation: attenuation,
+        cutoff,
+        transition,
+        attenuation,
     };
     let mut raws = [0.0f64; CACHED];
     put_spec(spec, rate, cap, &mut raws, &mut *out)

@@ -3,6 +3,7 @@ ghost use Rattle.std.specs.Prelude.{◌≡◌};
 ghost use Rattle.verdict.specs.Reports.{outcome_report};
 ghost use Rattle.fir_lowpass.specs.Lowpass.{outcome_of};
 
+use fir_lowpass::lowpass::Lowpass;
 use verdict::{Refusal, Report};
 
 // A low-pass's number of taps and its divisor, or why it is none.

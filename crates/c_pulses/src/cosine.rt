@@ -8,7 +8,7 @@ ghost use Rattle.c_pulses.specs.Buffers.{rrc_bytes};
 
 use fir_rrc::design::Rrc;
 use ticket_bytes::pulses::put_rrc;
-use verdict::{Report};
+use verdict::Report;
 
 // How many taps a pulse of so many samples a symbol and a span of so many symbols has, as the count: span · samples +
 // 1. Refused, in this order: 6 with 2, 1024, samples; 6 with 4, 32, span. Example: (2, 4) has 9.

@@ -5,6 +5,7 @@ ghost use Rattle.ticket_taps.specs.Fits.{FitsLowpass};
 ghost use Rattle.c_retune.specs.Designs.{left_of, Tunes};
 
 use super::record::{Design, design_of};
+use fir_lowpass::lowpass::Lowpass;
 use ticket_taps::{Source, put_taps};
 use verdict::{Refusal, Report};
 

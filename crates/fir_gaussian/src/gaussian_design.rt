@@ -100,11 +100,11 @@ pub fn prepare(bt: f64, sps: u64, span: u64, raws: &mut [f64]) -> Result<Gaussia
     let mid = ((n - 1) as f64) / 2.0;
     let sum = total(a, samples, mid, n, &mut *raws);
     Ok(Gaussian {
-        a: a,
+        a,
         sps: samples,
-        mid: mid,
-        n: n,
-        sum: sum,
+        mid,
+        n,
+        sum,
     })
 }
 

@@ -102,11 +102,11 @@ fn build(fc: f64, window: Window, i0: f64, n: u64, raws: &mut [f64]) -> Result<L
         return Err(Refusal::Plain(Reason::Divisor));
     }
     Ok(Lowpass {
-        n: n,
-        fc: fc,
-        window: window,
-        i0: i0,
-        sum: sum,
+        n,
+        fc,
+        window,
+        i0,
+        sum,
     })
 }
 

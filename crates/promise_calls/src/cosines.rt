@@ -50,7 +50,7 @@ pub fn lowpass_cosines_q15(
     let design = c_lowpass::cosines::pel_lowpass_cosines(cutoff, rate, window, &mut *taps);
     let conversion = pel_to_q15(&*taps, &mut *out);
     Filter {
-        design: design,
-        conversion: conversion,
+        design,
+        conversion,
     }
 }

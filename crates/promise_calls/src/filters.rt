@@ -25,8 +25,8 @@ pub fn lowpass_q15(
     let design = c_lowpass::lowpass::pel_lowpass(cutoff, rate, window, beta, &mut *taps);
     let conversion = pel_to_q15(&*taps, &mut *out);
     Filter {
-        design: design,
-        conversion: conversion,
+        design,
+        conversion,
     }
 }
 
@@ -51,8 +51,8 @@ pub fn spec_q15(
     );
     let conversion = pel_to_q15(&*taps, &mut *out);
     Filter {
-        design: design,
-        conversion: conversion,
+        design,
+        conversion,
     }
 }
 
@@ -77,8 +77,8 @@ pub fn channelizer_q15(
     );
     let conversion = pel_to_q15(&*taps, &mut *out);
     Filter {
-        design: design,
-        conversion: conversion,
+        design,
+        conversion,
     }
 }
 
@@ -88,8 +88,8 @@ pub fn halfband_q15(beta: f64, taps: &mut [u8], out: &mut [u8]) -> Filter
     let design = c_pulses::halfbands::pel_halfband(beta, &mut *taps);
     let conversion = pel_to_q15(&*taps, &mut *out);
     Filter {
-        design: design,
-        conversion: conversion,
+        design,
+        conversion,
     }
 }
 
@@ -99,7 +99,7 @@ pub fn gaussian_q15(bt: f64, samples: u64, span: u64, taps: &mut [u8], out: &mut
     let design = c_pulses::pulse::pel_gaussian(bt, samples, span, &mut *taps);
     let conversion = pel_to_q15(&*taps, &mut *out);
     Filter {
-        design: design,
-        conversion: conversion,
+        design,
+        conversion,
     }
 }

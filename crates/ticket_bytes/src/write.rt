@@ -6,6 +6,10 @@ ghost use Rattle.fir_lowpass.specs.Lowpass.{outcome_of};
 ghost use Rattle.ticket_taps.specs.Fits.{FitsLowpass};
 ghost use Rattle.ticket_bytes.specs.Sources.{of_halfband, of_gaussian, of_rrc, FitsHalfband, FitsGaussian};
 
+use fir_gaussian::gaussian_design::Gaussian;
+use fir_halfband::HalfbandDesign;
+use fir_lowpass::lowpass::Lowpass;
+use fir_rrc::design::Rrc;
 use ticket_taps::{Source, put_taps};
 use verdict::{Refusal, Report};
 

@@ -17,44 +17,56 @@ use verdict::{Judged, Refusal};
 use wire::float_of;
 
 // What is judged of a design of each kind.
-fn of_lowpass(designed: Result<Lowpass, Refusal>) -> Judged
+fn of_lowpass(designed: Result<Lowpass, Refusal>) -> Result<Judged, Refusal>
     ensures { result ≡ judged_of (LowpassOf.outcome_of designed) }
 {
     match designed {
-        Ok(lp) => Judged::Accepted(lp.n, lp.sum),
-        Err(why) => Judged::Refused(why),
+        Ok(lp) => Ok(Judged {
+            taps: lp.n,
+            divisor: lp.sum,
+        }),
+        Err(why) => Err(why),
     }
 }
 
-fn of_halfband(designed: Result<HalfbandDesign, Refusal>) -> Judged
+fn of_halfband(designed: Result<HalfbandDesign, Refusal>) -> Result<Judged, Refusal>
     ensures { result ≡ judged_of (HalfbandOf.outcome_of designed) }
 {
     match designed {
-        Ok(d) => Judged::Accepted(d.n, d.sum),
-        Err(why) => Judged::Refused(why),
+        Ok(d) => Ok(Judged {
+            taps: d.n,
+            divisor: d.sum,
+        }),
+        Err(why) => Err(why),
     }
 }
 
-fn of_gaussian(designed: Result<Gaussian, Refusal>) -> Judged
+fn of_gaussian(designed: Result<Gaussian, Refusal>) -> Result<Judged, Refusal>
     ensures { result ≡ judged_of (GaussianOf.outcome_of designed) }
 {
     match designed {
-        Ok(g) => Judged::Accepted(g.n, g.sum),
-        Err(why) => Judged::Refused(why),
+        Ok(g) => Ok(Judged {
+            taps: g.n,
+            divisor: g.sum,
+        }),
+        Err(why) => Err(why),
     }
 }
 
-fn of_rrc(designed: Result<Rrc, Refusal>) -> Judged
+fn of_rrc(designed: Result<Rrc, Refusal>) -> Result<Judged, Refusal>
     ensures { result ≡ judged_of (RrcOf.outcome_of designed) }
 {
     match designed {
-        Ok(d) => Judged::Accepted(d.n, d.norm),
-        Err(why) => Judged::Refused(why),
+        Ok(d) => Ok(Judged {
+            taps: d.n,
+            divisor: d.norm,
+        }),
+        Err(why) => Err(why),
     }
 }
 
 // Judges a ticket as it would be designed into a buffer of its own length, with the refusals of its kind.
-pub fn judge(t: Ticket) -> Judged
+pub fn judge(t: Ticket) -> Result<Judged, Refusal>
     ensures { result ≡ judged_of (judgement_of t) }
 {
     match t {

@@ -31,8 +31,8 @@ pub(crate) fn spec_for(s: SpecTicket) -> DesignSpec
     let transition = float_of(s.transition);
     let attenuation = float_of(s.attenuation);
     DesignSpec {
-        cutoff: cutoff,
-        transition: transition,
-        attenuation: attenuation,
+        cutoff,
+        transition,
+        attenuation,
     }
 }

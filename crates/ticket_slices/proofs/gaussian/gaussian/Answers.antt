@@ -1,5 +1,7 @@
 -- `ticket_slices::gaussian::gaussian` meets its contract. The loop's invariant: the taps so far stand at the front.
 -- Assumes nothing.
+use Rattle.std.specs.Prelude.{Err}
+use Rattle.std.proofs.Common.{rules}
 use mathlib.Core.Path.{◌≡◌, refl, sym, ap, ◌∙◌}
 use native.Mathlib.Omega.{arith}
 use borrow.Author.Rules.{scaled_Fits}
@@ -24,16 +26,18 @@ bounds-taps-i c =
     omega arith
 
 pub loop-i-preserved : goal.loop-i-preserved
-loop-i-preserved c = (omega arith, cc (fill_more c.loop-i.i (tap_of c.in-Ok.g) c.args.taps.now (omega arith)))
+loop-i-preserved c = (omega arith, cc (fill_more c.loop-i.i (tap_of c.in_ok-g.g) c.args.taps.now (omega arith)))
 
 pub shape_of-taps : goal.shape_of-taps
 shape_of-taps c = ap length c.loop-i.invariant.1 ∙ length_filled _ _ _ (omega arith)
 
-pub returns-after-loop-i : goal.returns-after-loop-i
-returns-after-loop-i c =
+pub returns : goal.returns
+returns c =
     let e : c.loop-i.i ≡ length c.args.taps.now = omega arith in
-    let k = fill_all c.loop-i.i (tap_of c.in-Ok.g) c.args.taps.now (omega arith) in
-    fills (ap outcome_of (sym c.fitted-designed.ensures.is ∙ c.in-Ok.is)) cc
+    let k = fill_all c.loop-i.i (tap_of c.in_ok-g.g) c.args.taps.now (omega arith) in
+    fills (ap outcome_of (sym c.fitted.ensures.is ∙ c.in_ok-g.was)) cc
 
-pub returns-in-Err : goal.returns-in-Err
-returns-in-Err c = leaves c.in-Err.why (ap outcome_of (sym c.fitted-designed.ensures.is ∙ c.in-Err.is))
+pub returns-in_err-g : goal.returns-in_err-g
+returns-in_err-g c =
+    let refused : c.from_residual.result ≡ Err c.in_err-g.field-0.0 = search rules in
+    rw refused (leaves c.in_err-g.field-0.0 (ap outcome_of (sym c.fitted.ensures.is ∙ c.in_err-g.was)))

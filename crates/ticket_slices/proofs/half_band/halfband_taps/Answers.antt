@@ -1,5 +1,7 @@
 -- `ticket_slices::half_band::halfband_taps` meets its contract: it fills a tap at a time, which agrees with the
 -- definition's buffer. The loop's invariant: the taps so far stand at the front. Assumes nothing.
+use Rattle.std.specs.Prelude.{Err}
+use Rattle.std.proofs.Common.{rules}
 use mathlib.Core.Path.{◌≡◌, sym, ap, ◌∙◌}
 use native.Mathlib.Omega.{arith}
 use borrow.Author.Rules.{scaled_Fits}
@@ -21,16 +23,18 @@ bounds-taps-k c =
     omega arith
 
 pub loop-k-preserved : goal.loop-k-preserved
-loop-k-preserved c = (omega arith, cc (fill_more c.loop-k.k (tap_of c.in-Ok.d) c.args.taps.now (omega arith)))
+loop-k-preserved c = (omega arith, cc (fill_more c.loop-k.k (tap_of c.in_ok-d.d) c.args.taps.now (omega arith)))
 
 pub shape_of-taps : goal.shape_of-taps
 shape_of-taps c = ap length c.loop-k.invariant.1 ∙ length_filled _ _ _ (omega arith)
 
-pub returns-after-loop-k : goal.returns-after-loop-k
-returns-after-loop-k c =
+pub returns : goal.returns
+returns c =
     let e : c.loop-k.k ≡ length c.args.taps.now = omega arith in
-    let k = fill_all c.loop-k.k (tap_of c.in-Ok.d) c.args.taps.now (omega arith) in
-    fills c.args.beta c.args.taps.now c.in-Ok.d c.loop-k.taps (sym c.new-designed.ensures ∙ c.in-Ok.is) cc
+    let k = fill_all c.loop-k.k (tap_of c.in_ok-d.d) c.args.taps.now (omega arith) in
+    fills c.args.beta c.args.taps.now c.in_ok-d.d c.loop-k.taps (sym c.new.ensures ∙ c.in_ok-d.was) cc
 
-pub returns-in-Err : goal.returns-in-Err
-returns-in-Err c = leaves c.args.beta c.args.taps.now c.in-Err.why (sym c.new-designed.ensures ∙ c.in-Err.is)
+pub returns-in_err-d : goal.returns-in_err-d
+returns-in_err-d c =
+    let refused : c.from_residual.result ≡ Err c.in_err-d.field-0.0 = search rules in
+    rw refused (leaves c.args.beta c.args.taps.now c.in_err-d.field-0.0 (sym c.new.ensures ∙ c.in_err-d.was))
