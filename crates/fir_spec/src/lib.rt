@@ -70,8 +70,7 @@ impl DesignSpec {
     pub fn num_taps(self, rate: f64, cap: u64) -> Result<u64, Refusal>
         ensures { result ≡ num_taps_of self rate cap }
     {
-        let order = spec_order(self, rate, cap)?;
-        Ok(order.taps)
+        Ok(spec_order(self, rate, cap)?.taps)
     }
 
     // The design alone, of as many taps as it needs: refused as `spec_order`, then as a low-pass.

@@ -29,9 +29,9 @@ spec_own : (spec : DesignSpec) (rate : Float) (cap : ℕ) → spec_design_of spe
 unfolding spec_design_of spec_lowpass_of num_taps_of
 spec_own spec rate cap = go (spec_order_of spec rate cap)
   where
-    go : (o : Order) → design_in spec rate (taps_in (length_in o)) o ≡ lowpass_in spec rate o
-    go (Order.Taps n beta) = rw (eq-eqb n n refl)
-    go (Order.Refused why) = refl
+    go : (o : Result Order Refusal) → design_in spec rate (taps_in (length_in o)) o ≡ lowpass_in spec rate o
+    go (Ok o) = rw (eq-eqb o.taps o.taps refl)
+    go (Err why) = refl
 
 -- ---- pulses
 gaussian_own : (bt : Float) (samples span : ℕ) → Gaussian.fitted_of (Gaussian.gaussian_of bt samples span) (span * samples + 1) ≡ Gaussian.gaussian_of bt samples span
