@@ -1,10 +1,11 @@
 -- Every refusal of each export has one of the refusals' numbers: the judgements, with codes and byte lengths before
 -- them. Assumes nothing.
-use Rattle.std.specs.Prelude.{ℕ, ◌/◌, ◌%◌, List, eqb, length, Float, Err, None, Ok, Result, Some}
+use Rattle.std.specs.Prelude.{ℕ, ◌/◌, ◌%◌, List, eqb, length, Float, Err, None, Ok, Option, Result, Some}
 use Rattle.laws.specs.Binary64.{whole}
 use Rattle.laws.specs.Cases.{either_way}
 use Rattle.verdict.specs.Report.{report_of}
 use Rattle.verdict.specs.Outcome.{Outcome, answered}
+use Rattle.fir_sinc.specs.declared.window.Window.{Window}
 use Rattle.fir_sinc.specs.declared.window.Window.TheVariants.{Kaiser}
 use Rattle.fir_lowpass.specs.Lowpass as Lowpass
 use Rattle.fir_spec.specs.Spec.{spec_design_of}
@@ -14,10 +15,12 @@ use Rattle.fir_gaussian.specs.Gaussian as Gaussian
 use Rattle.fir_rrc.specs.Rrc as Rrc
 use Rattle.fir_channelizer.specs.Channelizer as Channelizer
 use Rattle.iir_biquad.specs.Biquad.{biquad_of}
+use Rattle.iir_biquad.specs.declared.biquad.Response.{Response}
 use Rattle.iir_biquad.specs.Preemphasis.{preemphasis_of}
 use Rattle.iir_butterworth.specs.Butterworth.{butterworth_of}
 use Rattle.win_sampled.specs.Shapes.{judgement_of}
 use Rattle.win_sampled.specs.declared.shape.Shape.{Shape}
+use Rattle.win_sampled.specs.declared.shape.Symmetry.{Symmetry}
 use Rattle.c_lowpass.specs.Lowpass.{lowpass_coded, lowpass_bytes}
 use Rattle.c_lowpass.specs.Spec.{spec_bytes}
 use Rattle.c_lowpass.specs.Prototype.{channelizer_bytes}
@@ -38,12 +41,12 @@ use Rattle.verdict.specs.declared.Refusal.{Refusal}
 use Rattle.win_shapes.specs.declared.cosines.Cosines.{Cosines}
 
 -- ---- the low-pass, by the window's code
-pub lowpass_coded_lem : (cutoff rate : Float) (c : WindowCode.Coded) (n : ℕ) → Listed (answered (Lowpass.outcome_of (lowpass_coded cutoff rate c n)))
+pub lowpass_coded_lem : (cutoff rate : Float) (c : Option Window) (n : ℕ) → Listed (answered (Lowpass.outcome_of (lowpass_coded cutoff rate c n)))
 unfolding report_of listed
 lowpass_coded_lem cutoff rate (Some w) n = lowpass_listed cutoff rate w n
 lowpass_coded_lem cutoff rate None n = tt
 
-pub lowpass_bytes_lem : (cutoff rate : Float) (c : WindowCode.Coded) (len : ℕ) → Listed (answered (lowpass_bytes cutoff rate c len))
+pub lowpass_bytes_lem : (cutoff rate : Float) (c : Option Window) (len : ℕ) → Listed (answered (lowpass_bytes cutoff rate c len))
 unfolding report_of listed
 lowpass_bytes_lem cutoff rate (Some w) len = whole_listed 8 len _ (lowpass_listed cutoff rate w (len / 8))
 lowpass_bytes_lem cutoff rate None len = tt
@@ -90,7 +93,7 @@ numbers_listed : (v : Result (Unit {0}) Refusal) (xs : List Float) → Listed v 
 numbers_listed (Ok tt) xs l = tt
 numbers_listed (Err why) xs l = l
 
-pub biquad_bytes_lem : (c : ResponseCode.Coded) (centre q rate : Float) (len : ℕ) → Listed (answered (biquad_bytes c centre q rate len))
+pub biquad_bytes_lem : (c : Option Response) (centre q rate : Float) (len : ℕ) → Listed (answered (biquad_bytes c centre q rate len))
 unfolding report_of listed
 biquad_bytes_lem (Some r) centre q rate len = either_way (λ (o : Outcome). Listed (answered o)) (eqb len 40) _ _ (numbers_listed (biquad_of r centre q rate).verdict (biquad_of r centre q rate).coefs (biquad_listed r centre q rate)) tt
 biquad_bytes_lem None centre q rate len = tt
@@ -99,13 +102,13 @@ pub preemphasis_bytes_lem : (tau rate : Float) (len : ℕ) → Listed (answered 
 unfolding report_of listed
 preemphasis_bytes_lem tau rate len = either_way (λ (o : Outcome). Listed (answered o)) (eqb len 24) _ _ (numbers_listed (preemphasis_of tau rate).verdict (preemphasis_of tau rate).coefs (preemphasis_listed tau rate)) tt
 
-pub butterworth_bytes_lem : (c : ResponseCode.Coded) (order : ℕ) (cutoff rate : Float) (len : ℕ) → Listed (answered (butterworth_bytes c order cutoff rate len))
+pub butterworth_bytes_lem : (c : Option Response) (order : ℕ) (cutoff rate : Float) (len : ℕ) → Listed (answered (butterworth_bytes c order cutoff rate len))
 unfolding report_of listed
 butterworth_bytes_lem (Some r) order cutoff rate len = whole_listed 8 len (butterworth_of r order cutoff rate (len / 8)) (butterworth_listed r order cutoff rate (len / 8))
 butterworth_bytes_lem None order cutoff rate len = tt
 
 -- ---- windows
-pub window_bytes_lem : (s : Sample) (shape : Shape) (c : SymmetryCode.Coded) (len : ℕ) → Listed (answered (window_bytes s shape c len))
+pub window_bytes_lem : (s : Sample) (shape : Shape) (c : Option Symmetry) (len : ℕ) → Listed (answered (window_bytes s shape c len))
 unfolding report_of listed
 window_bytes_lem s shape (Some symmetry) len = whole_listed (width_of s) len _ (where_listed (judgement_of shape symmetry (len / width_of s)) _ (window_listed shape symmetry (len / width_of s)) tt)
 window_bytes_lem s shape None len = tt

@@ -1,7 +1,7 @@
 -- No low-pass, half-band or window with a beta from 0 to 713 is told 16: every other way out of its judgement has another
 -- number. Assumes nothing.
 use Prim.Native.Nat.{ℕ, zero, suc, ◌-◌, ◌/◌, ◌%◌}
-use Rattle.std.specs.Prelude.{◌≡◌, refl, Bool, true, false, not, cond, List, T, eqb, length, Float, Err, None, Ok, Result, Some}
+use Rattle.std.specs.Prelude.{◌≡◌, refl, Bool, true, false, not, cond, List, T, eqb, length, Float, Err, None, Ok, Option, Result, Some}
 use Rattle.std.proofs.Common.{sym, ap, ◌∙◌, subst, true≢false}
 use Rattle.std.specs.Float.Ieee.{le}
 use Rattle.laws.specs.Binary64.{◌⊘◌, whole, fraction}
@@ -109,7 +109,7 @@ module _ (beta : Float) (s : T (le (whole 0) beta)) (t : T (le beta (whole 713))
   where_spared (Ok tt) o l x = x
   where_spared (Err why) o l x = l
 
-  by_symmetry : (k : Sample) (c : SymmetryCode.Coded) (len : ℕ) → Spared (answered (window_bytes k (Shape.Kaiser beta) c len))
+  by_symmetry : (k : Sample) (c : Option Symmetry) (len : ℕ) → Spared (answered (window_bytes k (Shape.Kaiser beta) c len))
   unfolding report_of
   by_symmetry k (Some symmetry) len = spared_whole (width_of k) len _ (where_spared (judgement_of (Shape.Kaiser beta) symmetry (len / width_of k)) _ (window_spared symmetry (len / width_of k)) tt)
   by_symmetry k None len = tt
@@ -121,5 +121,5 @@ lowpass_taken cutoff rate window beta {before} w s t e = spared_told w (by_code 
 pub halfband_taken : (beta : Float) {before after : List ℕ} {r : Report} → Writes float_bytes (halfband_bytes beta (length before)) before r after → TakenTo713 beta r
 halfband_taken beta {before} w s t e = spared_told w (spared_whole 8 (length before) _ (halfband_spared beta s t (length before / 8))) e
 
-pub window_taken : (k : Sample) (beta : Float) (c : SymmetryCode.Coded) {before after : List ℕ} {r : Report} → Writes (sample_bytes k) (window_bytes k (Shape.Kaiser beta) c (length before)) before r after → TakenTo713 beta r
+pub window_taken : (k : Sample) (beta : Float) (c : Option Symmetry) {before after : List ℕ} {r : Report} → Writes (sample_bytes k) (window_bytes k (Shape.Kaiser beta) c (length before)) before r after → TakenTo713 beta r
 window_taken k beta c {before} w s t e = spared_told w (by_symmetry beta s t k c (length before)) e
