@@ -7,9 +7,10 @@ use Rattle.verdict.specs.declared.Refusal.{Refusal}
 use Rattle.verdict.specs.declared.Refusal.TheVariants.{Plain}
 use Rattle.ticket_kinds.specs.declared.TicketWindow.{TicketWindow}
 use Rattle.ticket_kinds.specs.declared.TicketWindow.TheVariants.{Hann, Hamming, Blackman, Kaiser, Loaded}
+use Rattle.ticket_kinds.specs.declared.kind.Kind.{Kind}
 use Rattle.ticket_kinds.specs.declared.Ticket.{Ticket}
 use Rattle.ticket_kinds.specs.declared.Ticket.TheVariants.{Lowpass, Spec, Halfband, Gaussian, Rrc, Channelizer}
-use Rattle.ticket_kinds.specs.Kinds.{window_of, window_code, window_beta, kind_of, fields_of, numbers_in, numbers_of, field_count, ticket_of, window_taken, has_code, formed, formed_of}
+use Rattle.ticket_kinds.specs.Kinds.{window_of, window_code, window_beta, kind_number, kind_of, fields_of, numbers_in, numbers_of, field_count, ticket_of, window_taken, has_code, formed, formed_of}
 use Rattle.verdict.specs.declared.Reason.TheVariants as Reason
 
 -- ---- a kind is one of six
@@ -44,6 +45,24 @@ counts k h =
     (omega arith, omega arith, λ e. omega arith)
     (omega arith, omega arith, λ e. omega arith)
     k h
+
+pub least_fields : (k : Kind) → 2 ≤ field_count (kind_number k)
+unfolding field_count
+least_fields Kind.Lowpass = omega arith
+least_fields Kind.Spec = omega arith
+least_fields Kind.Halfband = omega arith
+least_fields Kind.Gaussian = omega arith
+least_fields Kind.Rrc = omega arith
+least_fields Kind.Channelizer = omega arith
+
+pub most_fields : (k : Kind) → field_count (kind_number k) ≤ 5
+unfolding field_count
+most_fields Kind.Lowpass = omega arith
+most_fields Kind.Spec = omega arith
+most_fields Kind.Halfband = omega arith
+most_fields Kind.Gaussian = omega arith
+most_fields Kind.Rrc = omega arith
+most_fields Kind.Channelizer = omega arith
 
 -- as many fields as a ticket of the kind has, and the ticket of a kind has that kind
 pub count_is : (t : Ticket) → field_count (kind_of t) ≡ length (fields_of t)
