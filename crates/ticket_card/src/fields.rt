@@ -1,11 +1,11 @@
 // The numbers in a record's bytes, at proved places: none is read with a test of its own.
-ghost use Rattle.std.specs.Prelude.{◌≡◌, ◌+◌, ◌*◌, ◌≤◌, length, take, drop, get_or};
+ghost use Rattle.std.specs.Prelude.{◌≡◌, ◌+◌, ◌*◌, ◌≤◌, length, take, drop};
 ghost use Rattle.wire.specs.Bytes.{number_of};
 ghost use Rattle.ticket_kinds.specs.Kinds.{kind_number, field_count, numbers_in};
 ghost use Rattle.ticket_card.specs.Card.{record_length, fields_in, length_in, kind_in};
 
 use ticket_kinds::kind::Kind;
-use ticket_kinds::numbers::{NO_NUMBERS, Numbers};
+use ticket_kinds::numbers::Numbers;
 
 // The number in the eight bytes from `at` on.
 #[tactic(auto, using(wire::specs::Read::eight))]
@@ -53,7 +53,7 @@ pub(crate) fn numbers_in(src: &[u8], kind: Kind) -> Numbers
         kind: u64::from(kind),
         first: field(src, 6),
         second: field(src, 14),
-        ..NO_NUMBERS
+        ..Numbers::default()
     };
     match kind {
         Kind::Halfband => two,

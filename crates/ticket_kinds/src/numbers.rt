@@ -12,7 +12,7 @@ use verdict::{Reason, Refusal};
 // The kind, 1 to 6, and the fields in the order of its record; those past the kind's are 0. The kind is a number, since
 // C can give any.
 #[repr(C)]
-#[derive(Clone, Copy)]
+#[derive(Clone, Copy, Default)]
 pub struct Numbers {
     pub kind: u64,
     pub first: u64,
@@ -21,16 +21,6 @@ pub struct Numbers {
     pub fourth: u64,
     pub fifth: u64,
 }
-
-// No ticket: the fields that a kind hasn't are as here.
-pub const NO_NUMBERS: Numbers = Numbers {
-    kind: 0,
-    first: 0,
-    second: 0,
-    third: 0,
-    fourth: 0,
-    fifth: 0,
-};
 
 // 0 Hann, 1 Hamming, 2 Blackman, 3 Kaiser, which alone takes beta. Refused with 7: a code above 3.
 fn window_of(code: u64, beta: u64) -> Result<TicketWindow, Refusal>
@@ -144,21 +134,21 @@ impl From<Ticket> for Numbers {
                 kind: u64::from(Kind::Halfband),
                 first: h.beta,
                 second: h.count,
-                ..NO_NUMBERS
+                ..Numbers::default()
             },
             Ticket::Gaussian(g) => Numbers {
                 kind: u64::from(Kind::Gaussian),
                 first: g.bt,
                 second: g.samples,
                 third: g.span,
-                ..NO_NUMBERS
+                ..Numbers::default()
             },
             Ticket::Rrc(r) => Numbers {
                 kind: u64::from(Kind::Rrc),
                 first: r.rolloff,
                 second: r.samples,
                 third: r.span,
-                ..NO_NUMBERS
+                ..Numbers::default()
             },
             Ticket::Channelizer(c) => Numbers {
                 kind: u64::from(Kind::Channelizer),
