@@ -64,6 +64,15 @@ most_fields Kind.Gaussian = omega arith
 most_fields Kind.Rrc = omega arith
 most_fields Kind.Channelizer = omega arith
 
+pub never_four : (k : Kind) → field_count (kind_number k) ≡ 4 → ⊥
+unfolding field_count
+never_four Kind.Lowpass e = omega arith
+never_four Kind.Spec e = omega arith
+never_four Kind.Halfband e = omega arith
+never_four Kind.Gaussian e = omega arith
+never_four Kind.Rrc e = omega arith
+never_four Kind.Channelizer e = omega arith
+
 -- as many fields as a ticket of the kind has, and the ticket of a kind has that kind
 pub count_is : (t : Ticket) → field_count (kind_of t) ≡ length (fields_of t)
 unfolding field_count

@@ -1,10 +1,11 @@
 // The kinds of tickets, by the numbers that cards and C know them by.
 ghost use Rattle.std.specs.Prelude.{◌≡◌};
-ghost use Rattle.ticket_kinds.specs.Kinds.{kind_number, field_count, NamesKind};
+ghost use Rattle.ticket_kinds.specs.Kinds.{kind_number, kind_of, field_count, NamesKind};
 
+use super::Ticket;
 use verdict::{Reason, Refusal};
 
-#[derive(Clone, Copy, PartialEq, Eq)]
+#[derive(Clone, Copy)]
 pub enum Kind {
     Lowpass = 1,
     Spec = 2,
@@ -24,6 +25,21 @@ impl Kind {
             Kind::Halfband => 2,
             Kind::Gaussian | Kind::Rrc => 3,
             Kind::Lowpass | Kind::Spec | Kind::Channelizer => 5,
+        }
+    }
+}
+
+impl Ticket {
+    pub fn kind(self) -> Kind
+        ensures { kind_number result ≡ kind_of self }
+    {
+        match self {
+            Ticket::Lowpass(_) => Kind::Lowpass,
+            Ticket::Spec(_) => Kind::Spec,
+            Ticket::Halfband(_) => Kind::Halfband,
+            Ticket::Gaussian(_) => Kind::Gaussian,
+            Ticket::Rrc(_) => Kind::Rrc,
+            Ticket::Channelizer(_) => Kind::Channelizer,
         }
     }
 }

@@ -113,9 +113,10 @@ impl From<Ticket> for Numbers {
     ghost from_gives = { λ t numbers. numbers ≡ numbers_of t };
 
     fn from(t: Ticket) -> Numbers {
+        let kind = u64::from(t.kind());
         match t {
             Ticket::Lowpass(l) => Numbers {
-                kind: u64::from(Kind::Lowpass),
+                kind,
                 first: l.cutoff,
                 second: l.rate,
                 third: l.window.code(),
@@ -123,7 +124,7 @@ impl From<Ticket> for Numbers {
                 fifth: l.count,
             },
             Ticket::Spec(s) => Numbers {
-                kind: u64::from(Kind::Spec),
+                kind,
                 first: s.cutoff,
                 second: s.transition,
                 third: s.attenuation,
@@ -131,27 +132,27 @@ impl From<Ticket> for Numbers {
                 fifth: s.cap,
             },
             Ticket::Halfband(h) => Numbers {
-                kind: u64::from(Kind::Halfband),
+                kind,
                 first: h.beta,
                 second: h.count,
                 ..Numbers::default()
             },
             Ticket::Gaussian(g) => Numbers {
-                kind: u64::from(Kind::Gaussian),
+                kind,
                 first: g.bt,
                 second: g.samples,
                 third: g.span,
                 ..Numbers::default()
             },
             Ticket::Rrc(r) => Numbers {
-                kind: u64::from(Kind::Rrc),
+                kind,
                 first: r.rolloff,
                 second: r.samples,
                 third: r.span,
                 ..Numbers::default()
             },
             Ticket::Channelizer(c) => Numbers {
-                kind: u64::from(Kind::Channelizer),
+                kind,
                 first: c.channels,
                 second: c.branch,
                 third: c.passband,
