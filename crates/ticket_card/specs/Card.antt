@@ -4,7 +4,6 @@
 use Rattle.std.specs.Prelude.{ℕ, zero, suc, ◌+◌, ◌*◌, List, [], ◌∷◌, cond, eqb, ltb, leb, length, take, drop, Ok, Err, Result}
 use Rattle.wire.specs.Bytes.{number_of}
 use Rattle.verdict.specs.declared.Reason.{Reason}
-use Rattle.verdict.specs.declared.Reason.TheVariants as Reason
 use Rattle.ticket_kinds.specs.declared.Ticket.{Ticket}
 use Rattle.verdict.specs.declared.Refusal.TheVariants.{Plain}
 use Rattle.ticket_kinds.specs.Kinds.{field_count, window_taken, ticket_of}

@@ -3,8 +3,9 @@ use Rattle.std.specs.Prelude.{◌≡◌, refl, List, [], ◌∷◌, ◌++◌, �
 use Rattle.std.proofs.Common.{sym, subst, append_assoc, arith, length-append, length-drop, drop-drop}
 use Rattle.verdict.specs.declared.Refusal.{Refusal}
 use Rattle.ticket_kinds.specs.declared.Ticket.{Ticket}
+use Rattle.ticket_card.specs.declared.Reading.{Reading}
 use Rattle.ticket_card.specs.declared.card.Checked.{Checked}
-use Rattle.ticket_card.specs.Card.{read_of, found}
+use Rattle.ticket_card.specs.Card.{read_of}
 use Rattle.ticket_card.specs.Cards.{CardReads, ends, breaks, next, Checks}
 use Rattle.ticket_card.specs.Readings.{read_there, read_some}
 
@@ -33,18 +34,21 @@ at_first d = record {
     drop_none (b ∷ d) = refl
 
 module _ {d : List ℕ} {at n : ℕ} (r : Reached d at n) where
-  pub one_more : (t : Ticket) (k : ℕ) → read_of (drop at d) ≡ found t k → Reached d (at + k) (n + 1)
-  one_more t k e = record {
-    held = r.held ++ (t ∷ []);
-    count = omega (arith, r.count, length-append r.held (t ∷ []));
-    few = omega (arith, r.few, read_some (drop at d) t k e);
-    inside = omega (arith, r.inside, read_there (drop at d) t k e, length-drop at d);
-    onward = λ ts p v h.
-        let one : CardReads (drop at d) (t ∷ ts) (k + p) v = next e (subst (λ (l : List ℕ). CardReads l ts p v) (sym (drop-drop k at d)) h) in
-        let all : CardReads d (r.held ++ (t ∷ ts)) (at + (k + p)) v = r.onward (t ∷ ts) (k + p) v one in
-        subst (λ (m : ℕ). CardReads d ((r.held ++ (t ∷ [])) ++ ts) m v) (place at k p)
-        (subst (λ (l : List Ticket). CardReads d l (at + (k + p)) v) (sym (append_assoc r.held (t ∷ []) ts)) all);
-  }
+  pub one_more : (one : Reading) → read_of (drop at d) ≡ Ok one → Reached d (at + one.taken) (n + 1)
+  one_more one e =
+      let t = one.ticket in
+      let k = one.taken in
+      record {
+        held = r.held ++ (t ∷ []);
+        count = omega (arith, r.count, length-append r.held (t ∷ []));
+        few = omega (arith, r.few, read_some (drop at d) t k e);
+        inside = omega (arith, r.inside, read_there (drop at d) t k e, length-drop at d);
+        onward = λ ts p v h.
+            let one : CardReads (drop at d) (t ∷ ts) (k + p) v = next e (subst (λ (l : List ℕ). CardReads l ts p v) (sym (drop-drop k at d)) h) in
+            let all : CardReads d (r.held ++ (t ∷ ts)) (at + (k + p)) v = r.onward (t ∷ ts) (k + p) v one in
+            subst (λ (m : ℕ). CardReads d ((r.held ++ (t ∷ [])) ++ ts) m v) (place at k p)
+            (subst (λ (l : List Ticket). CardReads d l (at + (k + p)) v) (sym (append_assoc r.held (t ∷ []) ts)) all);
+      }
     where
       place : (a b c : ℕ) → a + (b + c) ≡ a + b + c
       place a b c = omega arith

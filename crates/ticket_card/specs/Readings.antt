@@ -1,23 +1,21 @@
 -- What a reading that found a ticket tells of the bytes, and the other way. Assumes nothing.
 use Rattle.std.specs.Prelude.{◌≡◌, refl, Bool, true, false, cond, List, ℕ, ◌≤◌, eqb, length, drop, Err, Result}
-use Rattle.std.proofs.Common.{arith, ltb-false, leb-true, eqb-true, le-ltb, le-leb, eq-eqb}
+use Rattle.std.proofs.Common.{ap, arith, ltb-false, leb-true, eqb-true, le-ltb, le-leb, eq-eqb}
+use Rattle.laws.specs.Results.{refused_never, same_answer}
 use Rattle.verdict.specs.declared.Refusal.{Refusal}
 use Rattle.ticket_kinds.specs.declared.Ticket.{Ticket}
 use Rattle.ticket_card.specs.declared.Reading.{Reading}
 use Rattle.ticket_kinds.specs.Kinds.{field_count, ticket_of, window_taken}
 use Rattle.ticket_card.specs.Card.{fields_in, following, record_length, length_in, kind_in, read_of, found}
 
-never : (why : Refusal) (t : Ticket) (k : ℕ) → Err why ≡ found t k → ⊥
-never why t k e = let z : ◌≡◌ {A = ℕ} 0 1 = cc in omega arith
-
 -- a test that refuses where it is true was false, and one that refuses where it is false was true
 past : (b : Bool) (why : Refusal) (r : Result Reading Refusal) (t : Ticket) (k : ℕ) → cond b (Err why) r ≡ found t k → (b ≡ false) × (r ≡ found t k)
-past true why r t k e = absurd (never why t k e)
+past true why r t k e = absurd (refused_never e)
 past false why r t k e = (refl, e)
 
 met : (b : Bool) (why : Refusal) (r : Result Reading Refusal) (t : Ticket) (k : ℕ) → cond b r (Err why) ≡ found t k → (b ≡ true) × (r ≡ found t k)
 met true why r t k e = (refl, e)
-met false why r t k e = absurd (never why t k e)
+met false why r t k e = absurd (refused_never e)
 
 -- the numbers in the fields that the kind has
 abbrev pub numbers_in : List ℕ → List ℕ
@@ -52,10 +50,10 @@ read_begins d t k e =
     }
   where
     same : {x y : Ticket} {m n : ℕ} → found x m ≡ found y n → x ≡ y
-    same e = cc
+    same e = ap (λ (r : Reading). r.ticket) (same_answer e)
 
     size : {x y : Ticket} {m n : ℕ} → found x m ≡ found y n → m ≡ n
-    size e = cc
+    size e = ap (λ (r : Reading). r.taken) (same_answer e)
 
 pub begins_read : (d : List ℕ) (t : Ticket) (k : ℕ) → Begins d t k → read_of d ≡ found t k
 unfolding read_of

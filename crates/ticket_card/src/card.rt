@@ -14,6 +14,7 @@ pub struct Checked {
 }
 
 // Reads a card to its end, or to the first record that is refused. Each record takes 22 bytes at least, so it ends.
+// The place is no counter: each record moves it by its own length, and it is answered, so that no iterator has it.
 pub fn check(src: &[u8]) -> Checked
     ensures { Checks src.now result }
 {
@@ -28,7 +29,7 @@ pub fn check(src: &[u8]) -> Checked
             }
             Err(why) => {
                 return Checked {
-                    tickets: tickets,
+                    tickets,
                     place: at,
                     ended: Err(why),
                 };
@@ -36,7 +37,7 @@ pub fn check(src: &[u8]) -> Checked
         }
     }
     Checked {
-        tickets: tickets,
+        tickets,
         place: at,
         ended: Ok(()),
     }

@@ -1,12 +1,14 @@
 // The numbers in a record's bytes, at proved places: none is read with a test of its own.
 ghost use Rattle.std.specs.Prelude.{◌≡◌, ◌+◌, ◌*◌, ◌≤◌, length, take, drop};
 ghost use Rattle.wire.specs.Bytes.{number_of};
-ghost use Rattle.ticket_kinds.specs.Kinds.{numbers_in};
-ghost use Rattle.ticket_card.specs.Card.{fields_in, length_in, kind_in};
+ghost use Rattle.ticket_kinds.specs.Kinds.{kind_number, field_count, numbers_in};
+ghost use Rattle.ticket_card.specs.Card.{record_length, fields_in, length_in, kind_in};
 
+use ticket_kinds::kind::Kind;
 use ticket_kinds::numbers::Numbers;
 
 // The number in the eight bytes from `at` on.
+#[tactic(auto, using(wire::specs::Read::eight))]
 fn field(src: &[u8], at: usize) -> u64
     requires { at + 8 ≤ length src.now }
     ensures { result ≡ number_of (take 8 (drop at src.now)) }
@@ -24,6 +26,7 @@ fn field(src: &[u8], at: usize) -> u64
 }
 
 // The length that a record tells of itself.
+#[tactic(auto, using(wire::specs::Read::four))]
 pub(crate) fn length_in(src: &[u8]) -> u64
     requires { 6 ≤ length src.now }
     ensures { result ≡ length_in src.now }
@@ -31,7 +34,8 @@ pub(crate) fn length_in(src: &[u8]) -> u64
     wire::join_four(src[0], src[1], src[2], src[3]) as u64
 }
 
-// Its kind.
+// Its kind, by number.
+#[tactic(auto, using(crate::specs::Places::kind_place))]
 pub(crate) fn kind_in(src: &[u8]) -> u64
     requires { 6 ≤ length src.now }
     ensures { result ≡ kind_in src.now }
@@ -39,42 +43,29 @@ pub(crate) fn kind_in(src: &[u8]) -> u64
     wire::join_four(src[4], src[5], 0, 0) as u64
 }
 
-// The numbers of the fields of a record of a kind: it has two, three or five.
-pub(crate) fn numbers_in(src: &[u8], kind: u64, count: u64) -> Numbers
-    requires { (2 ≤ count) × (count ≤ 5) × (count ≡ 4 → ⊥) × (6 + 8 * count ≤ length src.now) }
-    ensures { result ≡ numbers_in kind (fields_in count (drop 6 src.now)) }
+// The numbers of a record of a kind.
+#[tactic(auto, using(ticket_kinds::specs::KindsLaws::least_fields), unfolding(ticket_kinds::specs::Kinds::field_count, crate::specs::Card::fields_in))]
+pub(crate) fn numbers_in(src: &[u8], kind: Kind) -> Numbers
+    requires { record_length (field_count (kind_number kind)) ≤ length src.now }
+    ensures { result ≡ numbers_in (kind_number kind) (fields_in (field_count (kind_number kind)) (drop 6 src.now)) }
 {
-    let first = field(src, 6);
-    let second = field(src, 14);
-    if count == 2 {
-        return Numbers {
-            kind: kind,
-            first: first,
-            second: second,
-            third: 0,
-            fourth: 0,
-            fifth: 0,
-        };
-    }
-    let third = field(src, 22);
-    if count == 3 {
-        return Numbers {
-            kind: kind,
-            first: first,
-            second: second,
-            third: third,
-            fourth: 0,
-            fifth: 0,
-        };
-    }
-    let fourth = field(src, 30);
-    let fifth = field(src, 38);
-    Numbers {
-        kind: kind,
-        first: first,
-        second: second,
-        third: third,
-        fourth: fourth,
-        fifth: fifth,
+    let two = Numbers {
+        kind: u64::from(kind),
+        first: field(src, 6),
+        second: field(src, 14),
+        ..Numbers::default()
+    };
+    match kind {
+        Kind::Halfband => two,
+        Kind::Gaussian | Kind::Rrc => Numbers {
+            third: field(src, 22),
+            ..two
+        },
+        Kind::Lowpass | Kind::Spec | Kind::Channelizer => Numbers {
+            third: field(src, 22),
+            fourth: field(src, 30),
+            fifth: field(src, 38),
+            ..two
+        },
     }
 }

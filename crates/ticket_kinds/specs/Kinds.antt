@@ -1,10 +1,11 @@
 -- A ticket as the number of its kind and the numbers of its fields, and the ticket of such numbers. Definitions only.
-use Rattle.std.specs.Prelude.{ℕ, List, [], ◌∷◌, Bool, true, cond, eqb, leb, get_or, Err, Ok, Result}
+use Rattle.std.specs.Prelude.{ℕ, List, [], ◌∷◌, Bool, true, cond, eqb, leb, get_or, Err, Ok, Result, MatchResult, ◌≡◌}
 use Rattle.verdict.specs.declared.Refusal.TheVariants.{Plain}
 use Rattle.ticket_kinds.specs.declared.TicketWindow.{TicketWindow}
 use Rattle.ticket_kinds.specs.declared.TicketWindow.TheVariants.{Hann, Hamming, Blackman, Kaiser, Loaded}
 use Rattle.ticket_kinds.specs.declared.Ticket.{Ticket}
 use Rattle.ticket_kinds.specs.declared.Ticket.TheVariants.{Lowpass, Spec, Halfband, Gaussian, Rrc, Channelizer}
+use Rattle.ticket_kinds.specs.declared.kind.Kind.{Kind}
 use Rattle.ticket_kinds.specs.declared.numbers.Numbers.{Numbers}
 use Rattle.verdict.specs.declared.Refusal.{Refusal}
 use Rattle.verdict.specs.declared.Reason.TheVariants as Reason
@@ -27,6 +28,14 @@ window_beta (Kaiser beta) = beta
 window_beta (Loaded c) = 0
 
 -- "kinds 1 to 6 are"
+abbrev pub kind_number : Kind → ℕ
+kind_number Kind.Lowpass = 1
+kind_number Kind.Spec = 2
+kind_number Kind.Halfband = 3
+kind_number Kind.Gaussian = 4
+kind_number Kind.Rrc = 5
+kind_number Kind.Channelizer = 6
+
 abbrev pub kind_of : Ticket → ℕ
 kind_of (Lowpass t) = 1
 kind_of (Spec t) = 2
@@ -69,6 +78,10 @@ numbers_of t = numbers_in (kind_of t) (fields_of t)
 unfoldable pub field_count : ℕ → ℕ
 field_count k = cond (eqb k 1) 5 (cond (eqb k 2) 5 (cond (eqb k 3) 2 (cond (eqb k 4) 3 (cond (eqb k 5) 3 (cond (eqb k 6) 5 0)))))
 
+-- what a number is taken for: the kind that has it, or 13 where none has
+abbrev pub NamesKind : ℕ → Result Kind Refusal → Type 0
+NamesKind k r = MatchResult r (λ kind. kind_number kind ≡ k) (λ why. (why ≡ Plain Reason.Kind) × (field_count k ≡ 0))
+
 -- only a low-pass has a window, "0 to 3"
 unfoldable pub window_taken : ℕ → List ℕ → Bool
 window_taken k xs = cond (eqb k 1) (leb (get_or xs 2 0) 3) true
@@ -76,6 +89,10 @@ window_taken k xs = cond (eqb k 1) (leb (get_or xs 2 0) 3) true
 -- a code above 3 is refused before this is asked
 abbrev pub window_of : ℕ → ℕ → TicketWindow
 window_of code beta = cond (eqb code 0) Hann (cond (eqb code 1) Hamming (cond (eqb code 2) Blackman (Kaiser beta)))
+
+-- a window, or 7 where the code is none of the four
+abbrev pub window_coded : ℕ → ℕ → Result TicketWindow Refusal
+window_coded code beta = cond (leb code 3) (Ok (window_of code beta)) (Err (Plain Reason.Code))
 
 unfoldable pub ticket_of : ℕ → List ℕ → Ticket
 ticket_of k xs =

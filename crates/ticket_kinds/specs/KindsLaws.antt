@@ -7,9 +7,10 @@ use Rattle.verdict.specs.declared.Refusal.{Refusal}
 use Rattle.verdict.specs.declared.Refusal.TheVariants.{Plain}
 use Rattle.ticket_kinds.specs.declared.TicketWindow.{TicketWindow}
 use Rattle.ticket_kinds.specs.declared.TicketWindow.TheVariants.{Hann, Hamming, Blackman, Kaiser, Loaded}
+use Rattle.ticket_kinds.specs.declared.kind.Kind.{Kind}
 use Rattle.ticket_kinds.specs.declared.Ticket.{Ticket}
 use Rattle.ticket_kinds.specs.declared.Ticket.TheVariants.{Lowpass, Spec, Halfband, Gaussian, Rrc, Channelizer}
-use Rattle.ticket_kinds.specs.Kinds.{window_of, window_code, window_beta, kind_of, fields_of, numbers_in, numbers_of, field_count, ticket_of, window_taken, has_code, formed, formed_of}
+use Rattle.ticket_kinds.specs.Kinds.{window_of, window_code, window_beta, kind_number, kind_of, fields_of, numbers_in, numbers_of, field_count, ticket_of, window_taken, has_code, formed, formed_of}
 use Rattle.verdict.specs.declared.Reason.TheVariants as Reason
 
 -- ---- a kind is one of six
@@ -45,6 +46,33 @@ counts k h =
     (omega arith, omega arith, λ e. omega arith)
     k h
 
+pub least_fields : (k : Kind) → 2 ≤ field_count (kind_number k)
+unfolding field_count
+least_fields Kind.Lowpass = omega arith
+least_fields Kind.Spec = omega arith
+least_fields Kind.Halfband = omega arith
+least_fields Kind.Gaussian = omega arith
+least_fields Kind.Rrc = omega arith
+least_fields Kind.Channelizer = omega arith
+
+pub most_fields : (k : Kind) → field_count (kind_number k) ≤ 5
+unfolding field_count
+most_fields Kind.Lowpass = omega arith
+most_fields Kind.Spec = omega arith
+most_fields Kind.Halfband = omega arith
+most_fields Kind.Gaussian = omega arith
+most_fields Kind.Rrc = omega arith
+most_fields Kind.Channelizer = omega arith
+
+pub never_four : (k : Kind) → field_count (kind_number k) ≡ 4 → ⊥
+unfolding field_count
+never_four Kind.Lowpass e = omega arith
+never_four Kind.Spec e = omega arith
+never_four Kind.Halfband e = omega arith
+never_four Kind.Gaussian e = omega arith
+never_four Kind.Rrc e = omega arith
+never_four Kind.Channelizer e = omega arith
+
 -- as many fields as a ticket of the kind has, and the ticket of a kind has that kind
 pub count_is : (t : Ticket) → field_count (kind_of t) ≡ length (fields_of t)
 unfolding field_count
@@ -58,10 +86,6 @@ count_is (Channelizer t) = refl
 pub kind_kept : (k : ℕ) (xs : List ℕ) → eqb (field_count k) 0 ≡ false → kind_of (ticket_of k xs) ≡ k
 unfolding ticket_of
 kind_kept k xs h = by_kind (λ (k : ℕ). kind_of (ticket_of k xs) ≡ k) refl refl refl refl refl refl k h
-
--- a code that is none of the first three is Kaiser's
-pub last_window : (code beta : ℕ) → (code ≡ 0 → ⊥) → (code ≡ 1 → ⊥) → (code ≡ 2 → ⊥) → Kaiser beta ≡ window_of code beta
-last_window code beta a b c = rw (ne_eqb code 0 a, ne_eqb code 1 b, ne_eqb code 2 c)
 
 -- ---- the tests look at the fields alone
 pub formed_numbers : (k : ℕ) (xs : List ℕ) → formed_of (numbers_in k xs) ≡ formed k xs

@@ -4,6 +4,7 @@
 
 use win_shapes::cosines::Cosines;
 
+pub mod kind;
 pub mod numbers;
 
 // The window of a low-pass ticket: Kaiser with the bits of its beta, or a loaded one, which has no code.

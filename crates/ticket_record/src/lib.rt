@@ -1,19 +1,33 @@
 // A ticket written as a record of a card, into a buffer that is as long as the record.
 #![tactic(auto)]
 
-ghost use Rattle.std.specs.Prelude.{◌≡◌, ◌≤◌, length, take};
-ghost use Rattle.ticket_card.specs.Card.{record_length};
-ghost use Rattle.ticket_record.specs.Record.{record_bytes, field_list, WritesRecord};
+ghost use Rattle.std.specs.Prelude.{◌≡◌, length};
+ghost use Rattle.ticket_kinds.specs.Kinds.{has_code};
+ghost use Rattle.ticket_record.specs.Record.{record_of, WritesRecord};
 
-use ticket_kinds::Ticket;
-use ticket_kinds::numbers::{Numbers, field_count, numbers_of};
+use ticket_kinds::numbers::Numbers;
+use ticket_kinds::{Ticket, TicketWindow};
 use verdict::{Reason, Refusal};
 
-// Stores a record: the length of what follows, the kind, and its first fields, of which it has two, three or five.
-fn put_record(out: &mut [u8], n: Numbers, count: u64)
-    requires { (2 ≤ count) × (count ≤ 5) × (count ≡ 4 → ⊥) × (length out.old ≡ record_length count) }
-    ensures { out.new ≡ record_bytes n.kind (take count (field_list n)) }
+// Whether a card has a code for it: for a loaded window it has none.
+fn has_code(t: Ticket) -> bool
+    ensures { result ≡ has_code t }
 {
+    match t {
+        Ticket::Lowpass(l) => !matches!(l.window, TicketWindow::Loaded(_)),
+        _ => true,
+    }
+}
+
+// Stores the record of a ticket: the length of what follows, the kind, and its fields, of which it has two, three or
+// five.
+#[tactic(auto, using(ticket_kinds::specs::KindsLaws::most_fields))]
+fn put_record(t: Ticket, out: &mut [u8])
+    requires { length out.old ≡ length (record_of t) }
+    ensures { out.new ≡ record_of t }
+{
+    let n = Numbers::from(t);
+    let count = t.kind().fields();
     wire::put(&mut *out, 0, 4, 2 + 8 * count);
     wire::put(&mut *out, 4, 2, n.kind);
     wire::put(&mut *out, 6, 8, n.first);
@@ -32,20 +46,18 @@ fn put_record(out: &mut [u8], n: Numbers, count: u64)
 // Writes the record of a ticket. Refused, in this order, with the buffer as it came: 7 a loaded window, for which a
 // card has no code; 8 a buffer that isn't as long as the record, with both lengths in bytes. Nothing else is judged:
 // what a ticket can hold, a card can.
+#[tactic(auto, using(crate::specs::RecordLaws::size_of, ticket_kinds::specs::KindsLaws::most_fields), unfolding(crate::specs::Record::write_of))]
 pub fn write(t: Ticket, out: &mut [u8]) -> Result<(), Refusal>
     ensures { WritesRecord t out.old result out.new }
 {
-    let n = numbers_of(t);
-    let kind = n.kind;
-    if kind == 1 && n.third > 3 {
+    if !has_code(t) {
         return Err(Refusal::Plain(Reason::Code));
     }
-    let count = field_count(kind);
-    let size = (6 + 8 * count) as usize;
+    let size = (6 + 8 * t.kind().fields()) as usize;
     let len = out.len();
     if len != size {
         return Err(Refusal::Length(size as u64, len as u64));
     }
-    put_record(&mut *out, n, count);
+    put_record(t, &mut *out);
     Ok(())
 }

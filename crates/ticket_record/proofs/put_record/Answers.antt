@@ -1,39 +1,41 @@
 -- `ticket_record::put_record` meets its contract: one number behind the other, by how many fields there are. Assumes
 -- nothing.
-use mathlib.Core.Path.{◌≡◌, ap, sym, ◌∙◌}
-use mathlib.Core.List.{[], ◌∷◌}
-use Prim.Native.Nat.{ℕ, ◌+◌, ◌*◌}
-use lib.ListN.{take}
-use Rattle.ticket_record.specs.Record.{record_bytes, field_list}
+use Rattle.std.proofs.Common.{rules, ◌≡◌, ◌∙◌, ℕ, ◌≤◌, List, [], ◌∷◌, length, arith}
+use Rattle.wire.specs.Bytes.{put_of}
+use Rattle.ticket_kinds.specs.declared.numbers.Numbers.{Numbers}
+use Rattle.ticket_kinds.specs.Kinds.{kind_of, field_count}
+use Rattle.ticket_kinds.specs.KindsLaws.{least_fields, most_fields, never_four}
 use Rattle.ticket_record.specs.Stores.{RecordFront, no_fields, one_field, all_fields}
-use native.Mathlib.Omega.{arith}
+use Rattle.ticket_record.specs.RecordLaws.{size_of, record_is}
 use Rattle.ticket_record.proofs.put_record.Goals as goal
+
+-- the first two fields, which every kind has
+two_fields : {d a b x y : List ℕ} (n : Numbers) (m : ℕ) → 22 ≤ length d → a ≡ put_of 4 d 0 m → b ≡ put_of 2 a 4 n.kind → x ≡ put_of 8 b 6 n.first → y ≡ put_of 8 x 14 n.second → RecordFront d m n.kind (n.first ∷ n.second ∷ []) 22 y
+two_fields n m h p q r s = one_field (one_field (no_fields m n.kind (omega arith) p q) n.first (omega arith) r) n.second (omega arith) s
 
 pub returns-then-count-eq2 : goal.returns-then-count-eq2
 returns-then-count-eq2 c =
-    let two : (let a = c.args in RecordFront a.out.now (2 + 8 * a.count) a.n.kind (a.n.first ∷ a.n.second ∷ []) 22 c.put-4.new.out) = let n = c.args.n in
-    let none = no_fields (2 + 8 * c.args.count) n.kind (omega arith) c.put.ensures c.put-2.ensures in
-    one_field (one_field none n.first (omega arith) c.put-3.ensures) n.second (omega arith) c.put-4.ensures in
-    let e = c.if-count-eq2.true in
-    all_fields two (omega arith) (omega arith) ∙ ap (λ (j : ℕ). record_bytes c.args.n.kind (take j (field_list c.args.n))) (sym e)
+    let n = c.from-n.result in
+    let two : 2 ≡ field_count (kind_of c.args.t) = search rules in
+    let size = size_of c.args.t in
+    all_fields (two_fields n _ (omega arith) c.put.ensures c.put-2.ensures c.put-3.ensures c.put-4.ensures) (omega arith) (omega arith) ∙ record_is c.args.t n c.from-n.ensures 2 two
 
 pub returns-then-count-eq3 : goal.returns-then-count-eq3
 returns-then-count-eq3 c =
-    let three : (let a = c.args in RecordFront a.out.now (2 + 8 * a.count) a.n.kind (a.n.first ∷ a.n.second ∷ a.n.third ∷ []) 30 c.put-5.new.out) = let two : (let a = c.args in RecordFront a.out.now (2 + 8 * a.count) a.n.kind (a.n.first ∷ a.n.second ∷ []) 22 c.put-4.new.out) = let n = c.args.n in
-    let none = no_fields (2 + 8 * c.args.count) n.kind (omega arith) c.put.ensures c.put-2.ensures in
-    one_field (one_field none n.first (omega arith) c.put-3.ensures) n.second (omega arith) c.put-4.ensures in
-    let n = c.args.n in
-    one_field two n.third (omega arith) c.put-5.ensures in
-    let e = c.if-count-eq3.true in
-    all_fields three (omega arith) (omega arith) ∙ ap (λ (j : ℕ). record_bytes c.args.n.kind (take j (field_list c.args.n))) (sym e)
+    let n = c.from-n.result in
+    let three : 3 ≡ field_count (kind_of c.args.t) = search rules in
+    let size = size_of c.args.t in
+    let f = two_fields n _ (omega arith) c.put.ensures c.put-2.ensures c.put-3.ensures c.put-4.ensures in
+    all_fields (one_field f n.third (omega arith) c.put-5.ensures) (omega arith) (omega arith) ∙ record_is c.args.t n c.from-n.ensures 3 three
 
 pub returns : goal.returns
 returns c =
-    let three : (let a = c.args in RecordFront a.out.now (2 + 8 * a.count) a.n.kind (a.n.first ∷ a.n.second ∷ a.n.third ∷ []) 30 c.put-5.new.out) = let two : (let a = c.args in RecordFront a.out.now (2 + 8 * a.count) a.n.kind (a.n.first ∷ a.n.second ∷ []) 22 c.put-4.new.out) = let n = c.args.n in
-    let none = no_fields (2 + 8 * c.args.count) n.kind (omega arith) c.put.ensures c.put-2.ensures in
-    one_field (one_field none n.first (omega arith) c.put-3.ensures) n.second (omega arith) c.put-4.ensures in
-    let n = c.args.n in
-    one_field two n.third (omega arith) c.put-5.ensures in
-    let e : c.args.count ≡ 5 = omega arith in
-    let f = one_field three c.args.n.fourth (omega arith) c.put-6.ensures in
-    all_fields (one_field f c.args.n.fifth (omega arith) c.put-7.ensures) (omega arith) (omega arith) ∙ ap (λ (j : ℕ). record_bytes c.args.n.kind (take j (field_list c.args.n))) (sym e)
+    let n = c.from-n.result in
+    let k = c.kind.result in
+    let count = c.fields-count.ensures in
+    let many : c.fields-count.result ≡ 5 = omega (arith, count, least_fields k, most_fields k, never_four k) in
+    let five : 5 ≡ field_count (kind_of c.args.t) = search rules in
+    let size = size_of c.args.t in
+    let f = two_fields n _ (omega arith) c.put.ensures c.put-2.ensures c.put-3.ensures c.put-4.ensures in
+    let g = one_field (one_field f n.third (omega arith) c.put-5.ensures) n.fourth (omega arith) c.put-6.ensures in
+    all_fields (one_field g n.fifth (omega arith) c.put-7.ensures) (omega arith) (omega arith) ∙ record_is c.args.t n c.from-n.ensures 5 five
