@@ -17,15 +17,13 @@ fn write_cascade(response: Response, order: u64, cutoff: f64, rate: f64, out: &m
     ensures { Writes float_bytes (butterworth_of response order cutoff rate (length out.old / 8)) out.old result out.new }
 {
     let n = out.len() / 8;
-    let judged = iir_butterworth::judge(response, order, cutoff, rate, n as u64);
-    match judged {
-        Ok(()) => {
-            let mut numbers = [0.0f64; 20];
-            iir_butterworth::butterworth_sos(response, order, cutoff, rate, &mut numbers[..n]);
-            write_numbers(Ok(()), &numbers[..n], &mut *out)
-        }
-        Err(why) => Report::from(why),
+    if let Err(why) = iir_butterworth::judge(response, order, cutoff, rate, n as u64) {
+        return Report::from(why);
     }
+    let mut room = [0.0f64; 20];
+    let numbers = &mut room[..n];
+    let _ = iir_butterworth::butterworth_sos(response, order, cutoff, rate, &mut *numbers);
+    write_numbers(numbers, &mut *out)
 }
 
 // Fills the buffer with the sections of a Butterworth filter, five numbers each as pel_biquad_coefs has them, eight
@@ -44,15 +42,12 @@ pub fn pel_butterworth_sos(
 ) -> Report
     ensures { Writes float_bytes (butterworth_bytes (response_of response) order cutoff rate (length out.old)) out.old result out.new }
 {
-    let coded = response_of(response);
-    match coded {
-        Some(known) => {
-            let len = out.len() as u64;
-            if len % 8 != 0 {
-                return Report::from(Refusal::Length(len - len % 8, len));
-            }
-            write_cascade(known, order, cutoff, rate, &mut *out)
-        }
-        None => Report::from(Refusal::Plain(Reason::Code)),
+    let Some(known) = response_of(response) else {
+        return Report::from(Refusal::Plain(Reason::Code));
+    };
+    let len = out.len() as u64;
+    if len % 8 != 0 {
+        return Report::from(Refusal::Length(len - len % 8, len));
     }
+    write_cascade(known, order, cutoff, rate, &mut *out)
 }

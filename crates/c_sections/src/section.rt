@@ -6,7 +6,7 @@ ghost use Rattle.c_sections.specs.Codes.{response_of};
 ghost use Rattle.c_sections.specs.Numbers.{biquad_bytes, preemphasis_bytes};
 
 use super::codes::response_of;
-use super::write::write_numbers;
+use super::write::write_coefs;
 use iir_biquad::biquad::biquad_coefs;
 use iir_biquad::preemphasis::preemphasis_coefs;
 use verdict::{Reason, Refusal, Report};
@@ -20,20 +20,14 @@ use verdict::{Reason, Refusal, Report};
 pub fn pel_biquad_coefs(response: u64, centre: f64, q: f64, rate: f64, out: &mut [u8]) -> Report
     ensures { Writes float_bytes (biquad_bytes (response_of response) centre q rate (length out.old)) out.old result out.new }
 {
-    let coded = response_of(response);
-    match coded {
-        Some(known) => {
-            let len = out.len() as u64;
-            if len != 40 {
-                return Report::from(Refusal::Length(40, len));
-            }
-            let b = biquad_coefs(known, centre, q, rate);
-            let coefs = b.coefs;
-            let verdict = b.verdict;
-            write_numbers(verdict, &coefs, &mut *out)
-        }
-        None => Report::from(Refusal::Plain(Reason::Code)),
+    let Some(known) = response_of(response) else {
+        return Report::from(Refusal::Plain(Reason::Code));
+    };
+    let len = out.len() as u64;
+    if len != 40 {
+        return Report::from(Refusal::Length(40, len));
     }
+    write_coefs(biquad_coefs(known, centre, q, rate), &mut *out)
 }
 
 // Fills 24 bytes with the coefficients of pre-emphasis for a time constant tau in seconds at a rate: b0, b1, a1 with a0
@@ -48,8 +42,5 @@ pub fn pel_preemphasis_coefs(tau: f64, rate: f64, out: &mut [u8]) -> Report
     if len != 24 {
         return Report::from(Refusal::Length(24, len));
     }
-    let p = preemphasis_coefs(tau, rate);
-    let coefs = p.coefs;
-    let verdict = p.verdict;
-    write_numbers(verdict, &coefs, &mut *out)
+    write_coefs(preemphasis_coefs(tau, rate), &mut *out)
 }

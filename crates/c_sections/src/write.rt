@@ -1,5 +1,5 @@
 // Coefficients as the bytes of a buffer.
-ghost use Rattle.std.specs.Prelude.{◌≡◌, ◌*◌, length};
+ghost use Rattle.std.specs.Prelude.{◌≡◌, ◌*◌, length, Ok};
 ghost use Rattle.wire.specs.Bytes.{float_bytes};
 ghost use Rattle.wire.specs.Writes.{Writes};
 ghost use Rattle.c_sections.specs.Numbers.{numbers_of};
@@ -16,4 +16,18 @@ pub(crate) fn write_numbers(numbers: &[f64], out: &mut [u8]) -> Report
         wire::put_f64(&mut *out, 8 * i, numbers[i]);
     }
     Report::accepted(n as u64, 0.0)
+}
+
+// Writes the N numbers of a filter that is taken, and tells how many, or why it isn't.
+pub(crate) fn write_coefs<const N: usize>(
+    coefs: Result<[f64; N], Refusal>,
+    out: &mut [u8],
+) -> Report
+    requires { length out.old ≡ 8 * N }
+    ensures { Writes float_bytes (numbers_of coefs.entry) out.old result out.new }
+{
+    match coefs {
+        Ok(numbers) => write_numbers(&numbers, &mut *out),
+        Err(why) => Report::from(why),
+    }
 }

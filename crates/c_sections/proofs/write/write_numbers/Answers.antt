@@ -1,7 +1,6 @@
--- `c_sections::write::write_numbers` meets its contract, numbers that are fine and a refusal. The loop's invariant: the
--- first i numbers stand in the buffer, and the rest is as it came. Assumes nothing.
-use Rattle.std.specs.Prelude.{Result}
-use mathlib.Core.Path.{◌≡◌, ap, ◌∙◌}
+-- `c_sections::write::write_numbers` meets its contract. The loop's invariant: the first i numbers stand in the buffer, and
+-- the rest is as it came. Assumes nothing.
+use mathlib.Core.Path.{◌≡◌, refl, ap, ◌∙◌}
 use Prim.Native.Nat.{ℕ}
 use native.Mathlib.Omega.{arith}
 use lib.ListN.{length, get_or}
@@ -9,10 +8,8 @@ use lib.Ieee.{binary64, nan, of_bits, of_int, to_bits}
 use Rattle.laws.specs.Chunks.{chunks}
 use Rattle.wire.specs.Laws.{put_none, put_more, put_length, put_all}
 use Rattle.wire.specs.Bytes.{float_bytes}
-use Rattle.wire.proofs.WritesLaws.{leaves, fills}
-use Rattle.c_sections.specs.Numbers.{numbers_of}
+use Rattle.wire.proofs.WritesLaws.{fills}
 use Rattle.c_sections.proofs.write.write_numbers.Goals as goal
-use Rattle.verdict.specs.declared.Refusal.{Refusal}
 
 pub loop-i-init : goal.loop-i-init
 loop-i-init c =
@@ -29,16 +26,11 @@ shape_of-out c =
     let bits : ℕ → ℕ = λ k. to_bits binary64 (get_or c.args.numbers.now k nan) in
     ap length c.loop-i.invariant.1 ∙ put_length 8 bits c.loop-i.i c.args.out.now (omega arith)
 
-pub returns-after-loop-i : goal.returns-after-loop-i
+pub returns : goal.returns
 unfolding of_int of_bits
-returns-after-loop-i c =
+returns c =
     let bits : ℕ → ℕ = λ k. to_bits binary64 (get_or c.args.numbers.now k nan) in
     let a = c.args in
     let n : c.loop-i.i ≡ length a.numbers.now = omega arith in
-    fills (ap (λ (v : Result (Unit {0}) Refusal). numbers_of v a.numbers.now) c.in-Ok.is) c.accepted.ensures
+    fills refl c.accepted.ensures
     (c.loop-i.invariant.1 ∙ put_all 8 bits c.loop-i.i a.out.now (omega arith) ∙ ap (λ (k : ℕ). chunks k (λ j. float_bytes (get_or a.numbers.now j nan))) n)
-
-pub returns-in-Err : goal.returns-in-Err
-returns-in-Err c =
-    let a = c.args in
-    leaves (ap (λ (v : Result (Unit {0}) Refusal). numbers_of v a.numbers.now) c.in-Err.is) c.from.ensures

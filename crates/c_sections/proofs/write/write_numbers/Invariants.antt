@@ -1,5 +1,5 @@
--- `c_sections::write::write_numbers` meets its contract, numbers that are fine and a refusal. The loop's invariant: the
--- first i numbers stand in the buffer, and the rest is as it came. Assumes nothing.
+-- `c_sections::write::write_numbers` meets its contract. The loop's invariant: the first i numbers stand in the buffer, and
+-- the rest is as it came. Assumes nothing.
 use mathlib.Core.Path.{◌≡◌}
 use Prim.Native.Nat.{◌-◌, ◌≤◌}
 use lib.ListN.{get_or}
