@@ -5,6 +5,7 @@ ghost use Rattle.c_windows.specs.Codes.{symmetry_of};
 use win_sampled::shape::Symmetry;
 
 // 0 periodic, 1 symmetric.
+#[tactic(auto, unfolding(crate::specs::Codes::symmetry_of))]
 pub(crate) fn symmetry_of(code: u64) -> Option<Symmetry>
     ensures { result ≡ symmetry_of code }
 {

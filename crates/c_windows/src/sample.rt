@@ -10,27 +10,27 @@ pub enum Sample {
     Q15,
 }
 
-// How many bytes a sample has.
-pub(crate) fn width(sample: Sample) -> u64
-    ensures { result ≡ width_of sample }
-{
-    match sample {
-        Sample::Single => 4,
-        Sample::Q15 => 2,
-    }
-}
-
-// Stores the sample of a value at `at`; where it doesn't fit wholly, the buffer stays as it is. The width is a constant
-// in each arm, which makes it one store.
-pub(crate) fn store(sample: Sample, out: &mut [u8], at: usize, x: f64)
-    ensures { out.new ≡ put_of (width_of sample) out.old at (pattern_of sample x) }
-{
-    match sample {
-        Sample::Single => {
-            wire::put_u32(&mut *out, at, fmt_f32::narrow::pattern_of(x));
+impl Sample {
+    // How many bytes a sample has.
+    #[tactic(auto, unfolding(crate::specs::Samples::width_of))]
+    pub(crate) fn width(self) -> u64
+        ensures { result ≡ width_of self }
+    {
+        match self {
+            Sample::Single => 4,
+            Sample::Q15 => 2,
         }
-        Sample::Q15 => {
-            wire::put_i16(&mut *out, at, fmt_q15::q15::q15_from_f64(x));
+    }
+
+    // Stores the sample of a value at `at`; where it doesn't fit wholly, the buffer stays as it is. The width is a
+    // constant in each arm, which makes it one store.
+    #[tactic(auto, unfolding(crate::specs::Samples::width_of, crate::specs::Samples::pattern_of),)]
+    pub(crate) fn store(self, out: &mut [u8], at: usize, x: f64)
+        ensures { out.new ≡ put_of (width_of self) out.old at (pattern_of self x) }
+    {
+        match self {
+            Sample::Single => wire::put_u32(&mut *out, at, fmt_f32::narrow::pattern_of(x)),
+            Sample::Q15 => wire::put_i16(&mut *out, at, fmt_q15::q15::q15_from_f64(x)),
         }
     }
 }
