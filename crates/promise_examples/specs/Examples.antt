@@ -13,6 +13,7 @@ use Rattle.math_numbers.specs.Numbers.{positive}
 use Rattle.math_bessel.specs.Series.{series_of}
 use Rattle.fir_length.specs.Kaiser.{beta_of, order_of}
 use Rattle.fir_length.specs.declared.order.Order.{Order}
+use Rattle.verdict.specs.Report.{number_of}
 use Rattle.verdict.specs.declared.Refusal.{Refusal}
 use Rattle.verdict.specs.declared.Refusal.TheVariants as Why
 use Rattle.fir_sinc.specs.Windows.{window_at, norm_of}
@@ -32,15 +33,15 @@ is64 x n = eqb (to_bits binary64 x) n
 
 -- a refusal with the number k alone
 unfoldable pub is_plain : ℕ → Refusal → Bool
-is_plain k (Why.Plain j) = eqb j k
+is_plain k (Why.Plain j) = eqb (number_of j) k
 is_plain k (Why.Range j lo hi got) = false
 is_plain k (Why.Length expected given) = false
 is_plain k (Why.Cap n cap) = false
 is_plain k (Why.Element i lo hi got) = false
 
-unfoldable pub is_order : ℕ → ℕ → Order → Bool
-is_order n beta (Order.Taps m b) = eqb m n && is64 b beta
-is_order n beta (Order.Refused why) = false
+unfoldable pub is_order : ℕ → ℕ → Result Order Refusal → Bool
+is_order n beta (Ok o) = eqb o.taps n && is64 o.beta beta
+is_order n beta (Err why) = false
 
 -- a design whose first tap has the bit pattern n
 unfoldable pub first_tap : ℕ → Result Lowpass Refusal → Bool
@@ -96,7 +97,7 @@ has_taps n (Err why) = false
 -- none, because a value with the bit pattern n isn't between least and most: number k
 unfoldable pub is_range : ℕ → ℕ → ℕ → ℕ → Refusal → Bool
 is_range k least most offered (Why.Plain j) = false
-is_range k least most offered (Why.Range j lo hi got) = eqb j k && is64 lo least && is64 hi most && is64 got offered
+is_range k least most offered (Why.Range j lo hi got) = eqb (number_of j) k && is64 lo least && is64 hi most && is64 got offered
 is_range k least most offered (Why.Length expected given) = false
 is_range k least most offered (Why.Cap n cap) = false
 is_range k least most offered (Why.Element i lo hi got) = false

@@ -89,12 +89,12 @@ module _ (ripple transition rate : Float) where
   order_listed =
       let a = abs_of ripple in
       let width = whole 2 ⊗ transition ⊘ rate in
-      let way = either_way (λ (o : Order). Listed (of_order o)) in
+      let way = either_way (λ (o : Result Order Refusal). Listed (of_order o)) in
       way (finite a) _ _ (way (lt a (whole 8)) _ _ tt (way (positive width) _ _ (way (lt (whole 16777216) (estimate a width)) _ _ tt tt) tt)) tt
 
-lengthened_listed : (o : Order) → Listed (of_order o) → Listed (of_length (lengthened o))
-lengthened_listed (Order.Taps n beta) l = tt
-lengthened_listed (Order.Refused why) l = l
+lengthened_listed : (o : Result Order Refusal) → Listed (of_order o) → Listed (of_length (lengthened o))
+lengthened_listed (Ok o) l = tt
+lengthened_listed (Err why) l = l
 
 pub halfband_len_listed : (transition attenuation rate : Float) → Listed (of_length (halfband_len_of transition attenuation rate))
 unfolding halfband_len_of
@@ -106,30 +106,30 @@ delay_listed zero = tt
 delay_listed (suc n) = tt
 
 -- ---- the specification
-capped_listed : (o : Order) (cap : ℕ) → Listed (of_order o) → Listed (of_order (Spec.capped_of o cap))
+capped_listed : (o : Result Order Refusal) (cap : ℕ) → Listed (of_order o) → Listed (of_order (Spec.capped_of o cap))
 unfolding report_of listed
-capped_listed (Order.Taps n beta) cap l = either_way (λ (o : Order). Listed (of_order o)) (ltb cap n) (Order.Refused (Refusal.Cap n cap)) (Order.Taps n beta) tt tt
-capped_listed (Order.Refused why) cap l = l
+capped_listed (Ok o) cap l = either_way (λ (r : Result Order Refusal). Listed (of_order r)) (ltb cap o.taps) (Err (Refusal.Cap o.taps cap)) (Ok o) tt tt
+capped_listed (Err why) cap l = l
 
-taps_listed : (o : Order) → Listed (of_order o) → Listed (of_length (Spec.taps_in o))
-taps_listed (Order.Taps n beta) l = tt
-taps_listed (Order.Refused why) l = l
+taps_listed : (o : Result Order Refusal) → Listed (of_order o) → Listed (of_length (Spec.taps_in o))
+taps_listed (Ok o) l = tt
+taps_listed (Err why) l = l
 
 module _ (spec : DesignSpec) (rate : Float) where
-  in_order : (o : Order) → Listed (of_order o) → LowpassListed (Spec.lowpass_in spec rate o)
-  in_order (Order.Taps n beta) l = lowpass_listed spec.cutoff rate (Kaiser beta) n
-  in_order (Order.Refused why) l = l
+  in_order : (o : Result Order Refusal) → Listed (of_order o) → LowpassListed (Spec.lowpass_in spec rate o)
+  in_order (Ok o) l = lowpass_listed spec.cutoff rate (Kaiser o.beta) o.taps
+  in_order (Err why) l = l
 
-  in_buffer : (len : ℕ) (o : Order) → Listed (of_order o) → LowpassListed (Spec.design_in spec rate len o)
+  in_buffer : (len : ℕ) (o : Result Order Refusal) → Listed (of_order o) → LowpassListed (Spec.design_in spec rate len o)
   unfolding report_of listed
-  in_buffer len (Order.Taps n beta) l = either_way LowpassListed (eqb n len) (Lowpass.lowpass_of spec.cutoff rate (Kaiser beta) n) (Err (Refusal.Length n len)) (lowpass_listed spec.cutoff rate (Kaiser beta) n) tt
-  in_buffer len (Order.Refused why) l = l
+  in_buffer len (Ok o) l = either_way LowpassListed (eqb o.taps len) (Lowpass.lowpass_of spec.cutoff rate (Kaiser o.beta) o.taps) (Err (Refusal.Length o.taps len)) (lowpass_listed spec.cutoff rate (Kaiser o.beta) o.taps) tt
+  in_buffer len (Err why) l = l
 
   module _ (cap : ℕ) where
     pub spec_order_listed : Listed (of_order (Spec.spec_order_of spec rate cap))
     unfolding Spec.spec_order_of report_of listed
     spec_order_listed =
-        let way = either_way (λ (o : Order). Listed (of_order o)) in
+        let way = either_way (λ (o : Result Order Refusal). Listed (of_order o)) in
         way (positive rate) _ _
         (way (positive spec.transition) _ _
         (way (Spec.cutoff_taken spec.cutoff (rate ⊘ whole 2 ⊖ spec.transition ⊘ whole 2)) _ _

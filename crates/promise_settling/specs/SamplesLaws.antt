@@ -48,7 +48,7 @@ passes : (beta : Float) (symmetry : Symmetry) (n : ℕ) → judgement_of (Kaiser
 unfolding judgement_of series_settle
 passes beta symmetry n e = go (shape_taken (Kaiser beta)) (kaiser_settles beta (divisor_of symmetry n) n) e
   where
-    go : (a b : Bool) → cond a (cond b (Ok tt) (Err (Plain Reason.Unsettled))) (Err (Plain Reason.Attenuation)) ≡ Ok tt → b ≡ true
+    go : (a b : Bool) → cond a (cond b (Ok tt) (Err (Plain Reason.Unsettled))) (Err (Plain Reason.Attenuation)) ≡ Ok (tt {0}) → b ≡ true
     go true true e = refl
     go true false e = absurd (refused_never e)
     go false b e = absurd (refused_never e)

@@ -2,6 +2,7 @@
 use Rattle.std.specs.Prelude.{◌≡◌, List, ℕ, ◌-◌, ◌%◌, ◌<◌, length, get_or, Float, Err, Ok, Result}
 use Rattle.std.proofs.Common.{sym, ap, ◌∙◌, subst, arith}
 use Rattle.std.specs.Float.{nan}
+use Rattle.laws.specs.Results.{refused_never}
 use Rattle.laws.specs.Filled.{tabulate, tabulate_below, length_tabulate, get_d_tabulate}
 use Rattle.verdict.specs.Counted.{Counted}
 use Rattle.verdict.specs.Outcome.{Outcome, Fills, Agrees}
@@ -28,10 +29,6 @@ use Rattle.promise_totals.proofs.MirrorLaws.{halfband_symmetric}
 use Rattle.promise_totals.specs.Slices.{SliceMirrors, SliceTotals}
 
 -- ---- of any outcome
--- a refusal isn't done
-never : {A : Type 0} (why : Refusal) → Err why ≡ Ok tt → A
-never why e = let z : ◌≡◌ {A = ℕ} 0 1 = cc in absurd (omega arith)
-
 module _ {before after : List Float} {r : Result (Unit {0}) Refusal} where
   -- a slice that is filled by a design of as many taps as it has elements
   taps_are : (n : ℕ) (divisor : Float) (tap : ℕ → Float) → n ≡ length before → Fills (Outcome.Designed n divisor tap) before r after → after ≡ tabulate n tap
@@ -41,7 +38,7 @@ module _ {before after : List Float} {r : Result (Unit {0}) Refusal} where
   of_fills (Outcome.Designed n divisor tap) (taps, fit) e f =
       let p = subst (Promised divisor) (sym (taps_are n divisor tap e f)) (normalised_promised taps) in
       record { taps = λ a. p.taps; codes = λ a. p.codes }
-  of_fills (Outcome.Refused why) made e f = record { taps = λ a. never why (sym f.answer ∙ a); codes = λ a. never why (sym f.answer ∙ a) }
+  of_fills (Outcome.Refused why) made e f = record { taps = λ a. absurd (refused_never (sym f.answer ∙ a)); codes = λ a. absurd (refused_never (sym f.answer ∙ a)) }
 
   pub of_symmetric : (o : Outcome) → WhereMade o → Counted (length before) o → Fills o before r after → SliceMirrors r after
   of_symmetric (Outcome.Designed n divisor tap) s e f = subst (SliceMirrors r) (sym (taps_are n divisor tap e f)) (record { mirrored = λ a. mirrored; zeros = λ a. zeros })
@@ -61,7 +58,7 @@ module _ {before after : List Float} {r : Result (Unit {0}) Refusal} where
       zeros i h p q =
           let b : i < n = omega (arith, h, size) in
           subst IsZero (sym (at i b)) (s.zeros i b (subst (λ (m : ℕ). distance m i % 2 ≡ 0) size p) (λ z. q (subst (λ (m : ℕ). distance m i ≡ 0) (sym size) z)))
-  of_symmetric (Outcome.Refused why) s e f = record { mirrored = λ a. never why (sym f.answer ∙ a); zeros = λ a. never why (sym f.answer ∙ a) }
+  of_symmetric (Outcome.Refused why) s e f = record { mirrored = λ a. absurd (refused_never (sym f.answer ∙ a)); zeros = λ a. absurd (refused_never (sym f.answer ∙ a)) }
 
   -- two outcomes that agree fill alike
   fills_agreed : (o p : Outcome) → Agrees o p → Counted (length before) p → Fills o before r after → Fills p before r after

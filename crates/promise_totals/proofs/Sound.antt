@@ -97,9 +97,9 @@ pub spec_made : (spec : DesignSpec) (rate : Float) (cap len : ℕ) → Made (Low
 unfolding spec_design_of
 spec_made spec rate cap len = go (spec_order_of spec rate cap)
   where
-    go : (o : Order) → Made (Lowpass.outcome_of (design_in spec rate len o))
-    go (Order.Taps n beta) = either_way (λ (d : Result Lowpass Refusal). Made (Lowpass.outcome_of d)) (eqb n len) (Lowpass.lowpass_of spec.cutoff rate (Kaiser beta) n) _ (lowpass_made spec.cutoff rate (Kaiser beta) n) tt
-    go (Order.Refused why) = tt
+    go : (o : Result Order Refusal) → Made (Lowpass.outcome_of (design_in spec rate len o))
+    go (Ok o) = either_way (λ (d : Result Lowpass Refusal). Made (Lowpass.outcome_of d)) (eqb o.taps len) (Lowpass.lowpass_of spec.cutoff rate (Kaiser o.beta) o.taps) _ (lowpass_made spec.cutoff rate (Kaiser o.beta) o.taps) tt
+    go (Err why) = tt
 
 pub spec_bytes_sound : (spec : DesignSpec) (rate : Float) (m len : ℕ) → Sound (spec_bytes spec rate m len)
 spec_bytes_sound spec rate m len = sound (spec_bytes spec rate m len) (whole_made len _ (spec_made spec rate m (len / 8))) (Exports.spec_bytes_lem spec rate m len)
