@@ -18,7 +18,7 @@ no_ticket = record { kind = 0; first = 0; second = 0; third = 0; fourth = 0; fif
 
 -- the bytes that the record takes are the count
 abbrev pub told_of : Result Reading Refusal → TicketRead
-told_of (Ok r) = record { ticket = numbers_of t; report = accepted_of k (whole 0) }
+told_of (Ok r) = record { ticket = numbers_of r.ticket; report = accepted_of r.taken (whole 0) }
 told_of (Err why) = record { ticket = no_ticket; report = report_of why }
 
 -- the card holds these tickets; reading ended at this byte, as the report says

@@ -4,10 +4,9 @@ ghost use Rattle.ticket_card.specs.Card.{read_of};
 ghost use Rattle.verdict.specs.Reports.{done_report};
 ghost use Rattle.c_card.specs.Cards.{told_of, ChecksCard};
 
-use ticket_card::Reading;
 use ticket_card::card::check;
 use ticket_card::reader::read;
-use ticket_kinds::numbers::{Numbers, numbers_of};
+use ticket_kinds::numbers::Numbers;
 use verdict::{Refusal, Report};
 
 // What pel_read_ticket answers: the ticket, and the report.
@@ -25,30 +24,15 @@ pub struct TicketRead {
 pub fn pel_read_ticket(src: &[u8]) -> TicketRead
     ensures { result ≡ told_of (read_of src.now) }
 {
-    let reading = read(src);
-    match reading {
-        Reading::Read(t, taken) => {
-            let numbers = numbers_of(t);
-            let report = Report::accepted(taken as u64, 0.0);
-            TicketRead {
-                ticket: numbers,
-                report: report,
-            }
-        }
-        Reading::Refused(why) => {
-            let report = Report::from(why);
-            TicketRead {
-                ticket: Numbers {
-                    kind: 0,
-                    first: 0,
-                    second: 0,
-                    third: 0,
-                    fourth: 0,
-                    fifth: 0,
-                },
-                report: report,
-            }
-        }
+    match read(src) {
+        Ok(found) => TicketRead {
+            ticket: Numbers::from(found.ticket),
+            report: Report::accepted(found.taken as u64, 0.0),
+        },
+        Err(why) => TicketRead {
+            ticket: Numbers::default(),
+            report: Report::from(why),
+        },
     }
 }
 
@@ -77,11 +61,9 @@ pub fn pel_check_card(src: &[u8]) -> CardChecked
     ensures { ChecksCard src.now result }
 {
     let checked = check(src);
-    let ended = checked.ended;
-    let report = told_end(checked.tickets, ended);
     CardChecked {
         tickets: checked.tickets,
         place: checked.place as u64,
-        report: report,
+        report: told_end(checked.tickets, checked.ended),
     }
 }

@@ -8,7 +8,8 @@ ghost use Rattle.c_card.specs.Tickets.{judged_for, bytes_for};
 
 use ticket_design::design::design;
 use ticket_design::judge::judge;
-use ticket_kinds::numbers::{Numbers, ticket_of};
+use ticket_kinds::Ticket;
+use ticket_kinds::numbers::Numbers;
 use verdict::Report;
 
 // Judges a ticket as it would be designed into a buffer of its own length: its number of taps as the count, what they
@@ -17,8 +18,7 @@ use verdict::Report;
 pub fn pel_judge_ticket(ticket: Numbers) -> Report
     ensures { result ≡ outcome_report (judged_for (formed_of ticket)) }
 {
-    let formed = ticket_of(ticket);
-    match formed {
+    match Ticket::try_from(ticket) {
         Ok(t) => Report::from(judge(t)),
         Err(why) => Report::from(why),
     }
@@ -31,8 +31,7 @@ pub fn pel_judge_ticket(ticket: Numbers) -> Report
 pub fn pel_design_ticket(ticket: Numbers, out: &mut [u8]) -> Report
     ensures { Writes float_bytes (bytes_for (formed_of ticket) (length out.old)) out.old result out.new }
 {
-    let formed = ticket_of(ticket);
-    match formed {
+    match Ticket::try_from(ticket) {
         Ok(t) => design(t, &mut *out),
         Err(why) => Report::from(why),
     }

@@ -3,7 +3,8 @@ ghost use Rattle.ticket_kinds.specs.Kinds.{formed_of};
 ghost use Rattle.c_card.specs.Writing.{WritesTicket};
 
 use super::reading::told_end;
-use ticket_kinds::numbers::{Numbers, ticket_of};
+use ticket_kinds::Ticket;
+use ticket_kinds::numbers::Numbers;
 use ticket_record::write;
 use verdict::Report;
 
@@ -16,8 +17,7 @@ pub fn pel_write_ticket(ticket: Numbers, out: &mut [u8]) -> Report
     ensures { WritesTicket (formed_of ticket) out.old result out.new }
 {
     let len = out.len() as u64;
-    let formed = ticket_of(ticket);
-    match formed {
+    match Ticket::try_from(ticket) {
         Ok(t) => {
             let ended = write(t, &mut *out);
             told_end(len, ended)

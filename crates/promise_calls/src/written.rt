@@ -34,19 +34,19 @@ pub fn read_as_written(
 {
     let written = c_card::writing::pel_write_ticket(
         Numbers {
-            kind: kind,
-            first: first,
-            second: second,
-            third: third,
-            fourth: fourth,
-            fifth: fifth,
+            kind,
+            first,
+            second,
+            third,
+            fourth,
+            fifth,
         },
         &mut *out,
     );
     let found = c_card::reading::pel_read_ticket(&*out);
     BothWays {
-        written: written,
-        found: found,
+        written,
+        found,
     }
 }
 
@@ -57,7 +57,7 @@ pub fn write_as_read(src: &[u8], out: &mut [u8]) -> BothWays
     let found = c_card::reading::pel_read_ticket(src);
     let written = c_card::writing::pel_write_ticket(found.ticket, &mut *out);
     BothWays {
-        written: written,
-        found: found,
+        written,
+        found,
     }
 }

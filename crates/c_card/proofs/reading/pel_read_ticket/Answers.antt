@@ -4,9 +4,9 @@ use lib.Ieee.{of_int, of_bits}
 use Rattle.c_card.specs.Cards.{told_of}
 use Rattle.c_card.proofs.reading.pel_read_ticket.Goals as goal
 
-pub returns-in-Read : goal.returns-in-Read
+pub returns-in-Ok : goal.returns-in-Ok
 unfolding of_int of_bits
-returns-in-Read c = rw (c.accepted-report.ensures, c.numbers_of-numbers.ensures) (ap told_of (sym c.in-Read.is ∙ c.read-reading.ensures))
+returns-in-Ok c = rw (c.accepted.ensures, c.from.ensures) (ap told_of (sym c.in-Ok.is ∙ c.read.ensures))
 
 pub returns-in-Err : goal.returns-in-Err
-returns-in-Err c = rw c.from-report.ensures (ap told_of (sym c.in-Err.is ∙ c.read-reading.ensures))
+returns-in-Err c = rw c.from.ensures (ap told_of (sym c.in-Err.is ∙ c.read.ensures))

@@ -11,9 +11,9 @@ use Rattle.ticket_kinds.specs.declared.Ticket.{Ticket}
 pub returns-in-Ok : goal.returns-in-Ok
 returns-in-Ok c =
     let len = length c.args.out.now in
-    writes_same (ap (λ (f : Result Ticket Refusal). bytes_for f len) (sym c.in-Ok.is ∙ c.ticket_of-formed.ensures)) c.design.ensures
+    writes_same (ap (λ (f : Result Ticket Refusal). bytes_for f len) (sym c.in-Ok.is ∙ c.try_from.ensures)) c.design.ensures
 
 pub returns-in-Err : goal.returns-in-Err
 returns-in-Err c =
     let len = length c.args.out.now in
-    leaves (ap (λ (f : Result Ticket Refusal). bytes_for f len) (sym c.ticket_of-formed.ensures ∙ c.in-Err.is)) c.from.ensures
+    leaves (ap (λ (f : Result Ticket Refusal). bytes_for f len) (sym c.try_from.ensures ∙ c.in-Err.is)) c.from.ensures

@@ -10,7 +10,7 @@ use Rattle.verdict.specs.declared.Refusal.{Refusal}
 use Rattle.ticket_kinds.specs.declared.Ticket.{Ticket}
 
 pub returns-in-Ok : goal.returns-in-Ok
-returns-in-Ok c = c.from.ensures ∙ ap judged_report c.judge.ensures ∙ judged_told (judgement_of c.in-Ok.t) ∙ ap (λ (f : Result Ticket Refusal). outcome_report (judged_for f)) (sym c.in-Ok.is ∙ c.ticket_of-formed.ensures)
+returns-in-Ok c = c.from.ensures ∙ ap judged_report c.judge.ensures ∙ judged_told (judgement_of c.in-Ok.t) ∙ ap (λ (f : Result Ticket Refusal). outcome_report (judged_for f)) (sym c.in-Ok.is ∙ c.try_from.ensures)
 
 pub returns-in-Err : goal.returns-in-Err
-returns-in-Err c = c.from.ensures ∙ ap (λ (f : Result Ticket Refusal). outcome_report (judged_for f)) (sym c.in-Err.is ∙ c.ticket_of-formed.ensures)
+returns-in-Err c = c.from.ensures ∙ ap (λ (f : Result Ticket Refusal). outcome_report (judged_for f)) (sym c.in-Err.is ∙ c.try_from.ensures)

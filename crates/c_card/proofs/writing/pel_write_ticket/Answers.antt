@@ -12,7 +12,7 @@ pub returns-in-Ok : goal.returns-in-Ok
 returns-in-Ok c =
     let d = c.args.out.now in
     let n = length d in
-    let e = sym c.in-Ok.is ∙ c.ticket_of-formed.ensures in
+    let e = sym c.in-Ok.is ∙ c.try_from.ensures in
     record {
       answer = c.told_end.ensures ∙ ap (done_report n) (c.write-ended.ensures.answer ∙ ap (λ (f : Result Ticket Refusal). written_for f n) e);
       buffer = c.write-ended.ensures.buffer ∙ ap (λ (f : Result Ticket Refusal). left_for f d) e;
@@ -22,7 +22,7 @@ pub returns-in-Err : goal.returns-in-Err
 returns-in-Err c =
     let d = c.args.out.now in
     let n = length d in
-    let e = sym c.in-Err.is ∙ c.ticket_of-formed.ensures in
+    let e = sym c.in-Err.is ∙ c.try_from.ensures in
     record {
       answer = c.from.ensures ∙ ap (λ (f : Result Ticket Refusal). done_report n (written_for f n)) e;
       buffer = ap (λ (f : Result Ticket Refusal). left_for f d) e;
