@@ -77,7 +77,7 @@ read_or_none s {r} e = subst (ReadOrNone s) (sym e) (record {
 })
   where
     these : (r : Result Reading Refusal) → read_of s ≡ r → (told_of r).report.number ≡ 0 → Held s (told_of r)
-    these (Ok r) g z = record { ticket = t; read = g; numbers = refl; again = formed_back t (read_coded s t k g) }
+    these (Ok r) g z = record { ticket = r.ticket; read = g; numbers = refl; again = formed_back r.ticket (read_coded s r.ticket r.taken g) }
     these (Err why) g z = absurd (never_zero (report_of why).number (subst ReadListed g (read_listed s)) z)
 
     zeroed : (r : Result Reading Refusal) → ((told_of r).report.number ≡ 0 → ⊥) → (told_of r).ticket ≡ no_ticket

@@ -2,6 +2,7 @@
 -- nothing.
 use Rattle.std.specs.Prelude.{◌≡◌, refl, List, [], ◌∷◌, ℕ, zero, suc, ◌+◌, ◌*◌, ◌<◌, ◌≤◌, length, drop, Err, Ok, Result}
 use Rattle.std.proofs.Common.{sym, ap, ◌∙◌, subst, arith, length-drop, drop-drop}
+use Rattle.laws.specs.Results.{refused_never, same_answer, same_refusal}
 use Rattle.verdict.specs.declared.Refusal.{Refusal}
 use Rattle.ticket_kinds.specs.KindsLaws.{counts}
 use Rattle.ticket_kinds.specs.declared.Ticket.{Ticket}
@@ -9,9 +10,6 @@ use Rattle.ticket_card.specs.declared.Reading.{Reading}
 use Rattle.ticket_card.specs.Card.{kind_in, read_of, found}
 use Rattle.ticket_card.specs.Cards.{CardReads, ends, breaks, next}
 use Rattle.ticket_card.specs.Readings.{read_begins, read_there, read_some}
-
-never : {why : Refusal} {t : Ticket} {k : ℕ} → Err why ≡ found t k → ⊥
-never e = let z : ◌≡◌ {A = ℕ} 0 1 = cc in omega arith
 
 -- ---- one way
 -- two readings have the same tickets, end at the same byte and end alike
@@ -28,23 +26,20 @@ one_reading (ends z) (ends y) = record { tickets = refl; place = refl; ended = r
 one_reading (ends z) (breaks l e) = absurd (omega arith)
 one_reading (ends z) (next e r) = absurd (empty _ _ _ z e)
 one_reading (breaks l e) (ends z) = absurd (omega arith)
-one_reading (breaks l e) (breaks m f) = record { tickets = refl; place = refl; ended = ap Err (why (sym e ∙ f)) }
-  where
-    why : {x y : Refusal} → Err x ≡ Err y → x ≡ y
-    why h = cc
-one_reading (breaks l e) (next f r) = absurd (never (sym e ∙ f))
+one_reading (breaks l e) (breaks m f) = record { tickets = refl; place = refl; ended = ap Err (same_refusal (sym e ∙ f)) }
+one_reading (breaks l e) (next f r) = absurd (refused_never (sym e ∙ f))
 one_reading (next e r) (ends z) = absurd (empty _ _ _ z e)
-one_reading (next e r) (breaks l f) = absurd (never (sym f ∙ e))
+one_reading (next e r) (breaks l f) = absurd (refused_never (sym f ∙ e))
 one_reading {d} {a = a} {b = b} {v = v} {w = w} (next {t = t} {k = k} {ts = ts} {at = p} e r) (next {t = u} {k = m} {ts = us} {at = q} f s) =
     let same = sym e ∙ f in
     let h : Same ts us p q v w = one_reading r (subst (λ (j : ℕ). CardReads (drop j d) us q w) (sym (taken same)) s) in
     record { tickets = ap (λ (x : Ticket). x ∷ ts) (ticket same) ∙ ap (λ (l : List Ticket). u ∷ l) h.tickets; place = omega (arith, taken same, h.place); ended = h.ended }
   where
     ticket : {x y : Ticket} {i j : ℕ} → found x i ≡ found y j → x ≡ y
-    ticket h = cc
+    ticket h = ap (λ (r : Reading). r.ticket) (same_answer h)
 
     taken : {x y : Ticket} {i j : ℕ} → found x i ≡ found y j → i ≡ j
-    taken h = cc
+    taken h = ap (λ (r : Reading). r.taken) (same_answer h)
 
 -- ---- reading ends, for every list of bytes
 pub record Reads (d : List ℕ) : Type 0 where
@@ -60,9 +55,11 @@ within (suc n) d h = go (length d) refl (read_of d) refl (λ l m. within n l m)
     go : (m : ℕ) → length d ≡ m → (r : Result Reading Refusal) → read_of d ≡ r → ((l : List ℕ) → length l ≤ n → Reads l) → Reads d
     go zero z r e shorter = record { held = []; place = 0; ended = Ok tt; reads = ends {d = d} z }
     go (suc m) z (Err why) e shorter = record { held = []; place = 0; ended = Err why; reads = breaks {d = d} (omega (arith, z)) e }
-    go (suc m) z (found t k) e shorter =
+    go (suc m) z (Ok r) e shorter =
+        let t = r.ticket in
+        let k = r.taken in
         let rest = shorter (drop k d) (omega (arith, length-drop k d, read_some d t k e)) in
-        record { held = t ∷ rest.held; place = k + rest.place; ended = rest.ended; reads = next e rest.reads }
+        record { held = t ∷ rest.held; place = k + rest.place; ended = rest.ended; reads = next {t = t} {k = k} e rest.reads }
 
 pub card_reads : (d : List ℕ) → Reads d
 card_reads d = within (length d) d (omega arith)

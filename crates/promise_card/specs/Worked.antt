@@ -20,29 +20,29 @@ field_bytes (x ∷ xs) = bytes_of 8 x ++ field_bytes xs
 abbrev bytes_for : ℕ → List ℕ → List ℕ
 bytes_for k xs = bytes_of 4 (following (length xs)) ++ (bytes_of 2 k ++ field_bytes xs)
 
-five_bytes : read_of (42 ∷ 0 ∷ 0 ∷ 0 ∷ 1 ∷ []) ≡ refused 12
+five_bytes : read_of (42 ∷ 0 ∷ 0 ∷ 0 ∷ 1 ∷ []) ≡ refused Reason.CutShort
 unfolding read_of
 five_bytes = refl
 
 -- the kind is tested before the length, and the length before the body; nothing is added to a length of 2^32 − 1
-kind_seven : read_of (255 ∷ 255 ∷ 255 ∷ 255 ∷ 7 ∷ 0 ∷ []) ≡ refused 13
+kind_seven : read_of (255 ∷ 255 ∷ 255 ∷ 255 ∷ 7 ∷ 0 ∷ []) ≡ refused Reason.Kind
 unfolding read_of field_count number_of
 kind_seven = refl
 
-longest : read_of (255 ∷ 255 ∷ 255 ∷ 255 ∷ 1 ∷ 0 ∷ []) ≡ refused 14
+longest : read_of (255 ∷ 255 ∷ 255 ∷ 255 ∷ 1 ∷ 0 ∷ []) ≡ refused Reason.RecordLength
 unfolding read_of field_count number_of
 longest = refl
 
-no_body : read_of (42 ∷ 0 ∷ 0 ∷ 0 ∷ 1 ∷ 0 ∷ []) ≡ refused 12
+no_body : read_of (42 ∷ 0 ∷ 0 ∷ 0 ∷ 1 ∷ 0 ∷ []) ≡ refused Reason.CutShort
 unfolding read_of field_count number_of
 no_body = refl
 
 -- a window's code above 3 is tested last
-window_four : read_of (bytes_for 1 (1 ∷ 2 ∷ 4 ∷ 0 ∷ 5 ∷ [])) ≡ refused 7
+window_four : read_of (bytes_for 1 (1 ∷ 2 ∷ 4 ∷ 0 ∷ 5 ∷ [])) ≡ refused Reason.Code
 unfolding read_of field_count number_of bytes_of field_bytes fields_in window_taken
 window_four = refl
 
-window_four_short : read_of (take 45 (bytes_for 1 (1 ∷ 2 ∷ 4 ∷ 0 ∷ 5 ∷ []))) ≡ refused 12
+window_four_short : read_of (take 45 (bytes_for 1 (1 ∷ 2 ∷ 4 ∷ 0 ∷ 5 ∷ []))) ≡ refused Reason.CutShort
 unfolding read_of field_count number_of bytes_of field_bytes
 window_four_short = refl
 

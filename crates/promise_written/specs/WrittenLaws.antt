@@ -165,7 +165,9 @@ writes_back s {read} {before} {after} {r} b e w = go (read_of s) refl
     go (Err why) g z l =
         let h : read.report ≡ report_of why = ap (λ (y : TicketRead). y.report) e ∙ ap (λ (y : Result Reading Refusal). (told_of y).report) g in
         absurd (never_zero (report_of why).number (subst (λ (y : Result Reading Refusal). Listed (of_reading y)) g (read_listed s)) (ap (λ (y : Report). y.number) (sym h) ∙ z))
-    go (found t k) g z l =
+    go (Ok x) g z l =
+        let t = x.ticket in
+        let k = x.taken in
         let h : read.report ≡ accepted_of k (whole 0) = ap (λ (y : TicketRead). y.report) e ∙ ap (λ (y : Result Reading Refusal). (told_of y).report) g in
         let m : read.ticket ≡ numbers_of t = ap (λ (y : TicketRead). y.ticket) e ∙ ap (λ (y : Result Reading Refusal). (told_of y).ticket) g in
         let c = read_coded s t k g in

@@ -37,8 +37,8 @@ own_fields (Rrc t) = refl
 own_fields (Channelizer t) = refl
 
 -- as many of its numbers as its kind has fields are the record of a ticket
-pub record_is : (t : Ticket) (n : Numbers) → n ≡ numbers_of t → (count : ℕ) → count ≡ field_count (kind_of t) → record_bytes n.kind (take count (field_list n)) ≡ record_of t
-record_is t n e count c =
-    ap (λ (m : Numbers). record_bytes m.kind (take count (field_list m))) e
-    ∙ ap (λ (j : ℕ). record_bytes (kind_of t) (take j (field_list (numbers_of t)))) (c ∙ count_is t)
+pub record_is : (t : Ticket) (n : Numbers) (k : ℕ) → n ≡ numbers_of t → k ≡ kind_of t → record_bytes n.kind (take (field_count k) (field_list n)) ≡ record_of t
+record_is t n k e kind =
+    ap (λ (m : Numbers). record_bytes m.kind (take (field_count k) (field_list m))) e
+    ∙ ap (λ (j : ℕ). record_bytes (kind_of t) (take j (field_list (numbers_of t)))) (ap field_count kind ∙ count_is t)
     ∙ ap (record_bytes (kind_of t)) (own_fields t)
