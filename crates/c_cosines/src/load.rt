@@ -1,8 +1,7 @@
 // A lock maker's numbers loaded as a window, as an export. The record goes to pel_lowpass_cosines, since a window of
 // its own has no code.
-ghost use Rattle.std.specs.Prelude.{◌≡◌, ◌*◌, ◌/◌, ◌<◌, length, get_or};
+ghost use Rattle.std.specs.Prelude.{◌≡◌, ◌/◌, length, get_or};
 ghost use Rattle.laws.specs.Binary64.{whole};
-ghost use Rattle.wire.specs.Bytes.{float_at};
 ghost use Rattle.c_cosines.specs.Loads.{numbers_in, load_bytes, answer_of};
 
 use verdict::{Refusal, Report};
@@ -17,54 +16,13 @@ pub struct Loaded {
     pub report: Report,
 }
 
-// Number i of a list of bytes.
-fn float_at(src: &[u8], i: usize) -> f64
-    requires { i < length src.now / 8 }
-    ensures { result ≡ float_at src.now (8 * i) }
-{
-    let at = 8 * i;
-    wire::float_of(wire::join(
-        src[at],
-        src[at + 1],
-        src[at + 2],
-        src[at + 3],
-        src[at + 4],
-        src[at + 5],
-        src[at + 6],
-        src[at + 7],
-    ))
-}
-
-// The same, and 0 where it isn't given.
+// Number i of a list of bytes, and 0 where it isn't given.
 fn number_at(src: &[u8], i: usize) -> f64
     ensures { result ≡ get_or (numbers_in src.now) i (whole 0) }
 {
-    if i < src.len() / 8 {
-        float_at(src, i)
-    } else {
-        0.0
-    }
-}
-
-// What is answered where n numbers were given.
-fn answer(n: u64, loading: Result<Cosines, Refusal>) -> Loaded
-    ensures { result ≡ answer_of n loading }
-{
-    match loading {
-        Ok(c) => Loaded {
-            window: c,
-            report: Report::accepted(n, 0.0),
-        },
-        Err(why) => Loaded {
-            window: Cosines {
-                c0: 0.0,
-                c1: 0.0,
-                c2: 0.0,
-                c3: 0.0,
-                c4: 0.0,
-            },
-            report: Report::from(why),
-        },
+    match src.as_chunks::<8>().0.get(i) {
+        Some(bytes) => wire::float_of(wire::number_in(bytes)),
+        None => 0.0,
     }
 }
 
@@ -88,6 +46,15 @@ fn load_bytes(src: &[u8]) -> Result<Cosines, Refusal>
     )
 }
 
+// What is given in place of a window that is refused.
+const NOTHING: Cosines = Cosines {
+    c0: 0.0,
+    c1: 0.0,
+    c2: 0.0,
+    c3: 0.0,
+    c4: 0.0,
+};
+
 // Loads one to five numbers, eight bytes each, the lowest first, for the window c0 − c1 cos x + c2 cos 2x − c3 cos 3x +
 // c4 cos 4x; those not given are 0. Gives the window to design with, and how many numbers as the count.
 // Refused, in this order, with a window of zeros: 8 a length that isn't a multiple of 8, with the length to the last
@@ -97,5 +64,14 @@ fn load_bytes(src: &[u8]) -> Result<Cosines, Refusal>
 pub fn pel_load_cosines(src: &[u8]) -> Loaded
     ensures { result ≡ answer_of (length src.now / 8) (load_bytes src.now) }
 {
-    answer(src.len() as u64 / 8, load_bytes(src))
+    match load_bytes(src) {
+        Ok(window) => Loaded {
+            window,
+            report: Report::accepted(src.len() as u64 / 8, 0.0),
+        },
+        Err(why) => Loaded {
+            window: NOTHING,
+            report: Report::from(why),
+        },
+    }
 }

@@ -4,7 +4,9 @@ use Rattle.std.specs.Prelude.{◌≡◌, refl, List, [], ◌∷◌, ◌++◌, no
 use Rattle.std.proofs.Common.{sym, ap, ◌∙◌, lt_of_lt_of_le, le_of_eq, pow-suc, div-lt_iff_lt-mul, not-suc-le-zero, mul-suc, mul-le-mul_left, add_assoc, arith, lt-ltb, le-ltb, lit≤, length-drop, drop-cons, take_all, drop_at}
 use Prim.Native.Nat.{ℕ, zero, suc, ◌+◌, ◌*◌, ◌/◌, ◌%◌, ◌^◌, ◌≤◌, ◌<◌}
 use Rattle.std.proofs.Math.ListN.{length}
-use Rattle.std.proofs.lemmas.List.{take-append-le, drop-append-le}
+use native.Mathlib.Numerals.{unary_clauses}
+use Rattle.std.proofs.lemmas.List.{take-append-le, drop-append-le, drop-drop}
+use Rattle.std.specs.Simd.{first_chunks}
 use Rattle.std.specs.Float.{nan, Format, binary64}
 use Rattle.std.specs.Float.Ieee.{of_bits, to_bits, fits, nan_bits, ones, hid, top}
 use Rattle.std.specs.Float.Ieee.Bits.{of_bits-to_bits, to_bits-lt, nan_bits_is, nan_bits_above}
@@ -66,6 +68,13 @@ pub floats_back : (n : ℕ) (t : ℕ → Float) → ((i : ℕ) → T (fits binar
 floats_back n t f =
     tabulate_below n (λ i. float_of (take 8 (drop (8 * i) (chunks n (λ i. float_bytes (t i)))))) t
     (λ i h. ap float_of (chunk_at 8 (λ i. float_bytes (t i)) (λ i. length_bytes 8 (to_bits binary64 (t i))) n i h) ∙ float_bytes_lem (t i) (f i))
+
+-- the chunks that the library cuts a list into, w elements each: chunk i of k
+pub chunk_in : (w k i : ℕ) (d none : List ℕ) → i < k → get_or (first_chunks w k d) i none ≡ take w (drop (w * i) d)
+chunk_in w zero i d none h = absurd (not-suc-le-zero h)
+chunk_in w (suc k) zero d none h = simp unary_clauses refl
+chunk_in w (suc k) (suc i) d none h =
+    chunk_in w k i (drop w d) none (omega arith) ∙ rw (drop-drop, mul-suc) (ap (λ (j : ℕ). take w (drop j d)) (omega arith))
 
 -- ---- bytes one by one
 next : (d : List ℕ) (at k n : ℕ) → at < length d → n ≡ suc at → number_of (take (suc k) (drop at d)) ≡ get_or d at 0 + 256 * number_of (take k (drop n d))

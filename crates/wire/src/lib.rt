@@ -5,7 +5,7 @@ ghost use Rattle.std.specs.Prelude.{◌≡◌, ◌+◌, ◌≤◌, ◌%◌, leng
 ghost use Rattle.std.proofs.lemmas.List.Edits.{sets};
 ghost use Rattle.std.specs.Float.{binary32, binary64};
 ghost use Rattle.std.specs.Float.Ieee.{to_bits, of_bits};
-ghost use Rattle.wire.specs.Bytes.{bytes_of, put_of, twos_of, joined, joined_four};
+ghost use Rattle.wire.specs.Bytes.{bytes_of, put_of, twos_of, number_of, joined, joined_four};
 
 // The pattern that every NaN is written as.
 const NAN: u64 = 0x7FF8_0000_0000_0000;
@@ -103,6 +103,13 @@ pub fn join(a: u8, b: u8, c: u8, d: u8, e: u8, f: u8, g: u8, h: u8) -> u64
     let x = (a as u64) + 256 * (b as u64) + 65536 * (c as u64) + 16777216 * (d as u64);
     let y = (e as u64) + 256 * (f as u64) + 65536 * (g as u64) + 16777216 * (h as u64);
     x + 4294967296 * y
+}
+
+// Eight bytes as a number, the lowest first: the type says how many there are, so that none is read with a test.
+pub fn number_in(bytes: &[u8; 8]) -> u64
+    ensures { result ≡ number_of bytes.now }
+{
+    u64::from_le_bytes(*bytes)
 }
 
 // Four bytes as a number, the lowest first.

@@ -1,14 +1,12 @@
 -- `c_cosines::load::pel_load_cosines` meets its contract. Assumes nothing.
-use Rattle.std.specs.Prelude.{Result}
-use mathlib.Core.Path.{ap, ◌∙◌}
-use Prim.Native.Nat.{◌/◌}
-use lib.ListN.{length}
-use Rattle.c_cosines.specs.Loads.{answer_of}
+use mathlib.Core.Path.{refl}
+use lib.Ieee.{of_bits, of_int}
 use Rattle.c_cosines.proofs.load.pel_load_cosines.Goals as goal
-use Rattle.verdict.specs.declared.Refusal.{Refusal}
-use Rattle.win_shapes.specs.declared.cosines.Cosines.{Cosines}
 
-pub returns : goal.returns
-returns c =
-    let s = c.args.src.now in
-    c.answer.ensures ∙ ap (λ (l : Result Cosines Refusal). answer_of (length s / 8) l) c.load_bytes.ensures
+pub returns-in-Ok : goal.returns-in-Ok
+unfolding of_bits of_int
+returns-in-Ok c = rw (c.accepted.ensures, ← c.load_bytes.ensures, c.in-Ok.is) refl
+
+pub returns-in-Err : goal.returns-in-Err
+unfolding of_bits of_int
+returns-in-Err c = rw (c.from.ensures, ← c.load_bytes.ensures, c.in-Err.is) refl
