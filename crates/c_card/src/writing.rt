@@ -18,7 +18,10 @@ pub fn pel_write_ticket(ticket: Numbers, out: &mut [u8]) -> Report
 {
     let len = out.len() as u64;
     match Ticket::try_from(ticket) {
-        Ok(t) => told_end(len, write(t, &mut *out)),
+        Ok(t) => {
+            let ended = write(t, &mut *out);
+            told_end(len, ended)
+        }
         Err(why) => Report::from(why),
     }
 }

@@ -11,5 +11,5 @@ returns c =
       ended = c.check-checked.result.ended;
       tickets = c.check-checked.ensures.tickets;
       reads = c.check-checked.ensures.reads;
-      report = c.told_end.ensures ∙ ap (λ (n : ℕ). done_report n c.check-checked.result.ended) c.check-checked.ensures.tickets;
+      report = c.told_end-report.ensures ∙ ap (λ (n : ℕ). done_report n c.check-checked.result.ended) c.check-checked.ensures.tickets;
     }

@@ -14,8 +14,8 @@ returns-in-Ok c =
     let n = length d in
     let e = sym c.in-Ok.is ∙ c.try_from.ensures in
     record {
-      answer = c.told_end.ensures ∙ ap (done_report n) (c.write.ensures.answer ∙ ap (λ (f : Result Ticket Refusal). written_for f n) e);
-      buffer = c.write.ensures.buffer ∙ ap (λ (f : Result Ticket Refusal). left_for f d) e;
+      answer = c.told_end.ensures ∙ ap (done_report n) (c.write-ended.ensures.answer ∙ ap (λ (f : Result Ticket Refusal). written_for f n) e);
+      buffer = c.write-ended.ensures.buffer ∙ ap (λ (f : Result Ticket Refusal). left_for f d) e;
     }
 
 pub returns-in-Err : goal.returns-in-Err
