@@ -56,7 +56,7 @@ by_kinds (Rrc t) = refl
 by_kinds (Channelizer t) = refl
 
 -- ---- a record that was written: its window has a code, and the buffer is as long as it
-done_only : (a b : Bool) (x y : Refusal) → cond a (cond b (Ok tt) (Err x)) (Err y) ≡ Ok tt → (a ≡ true) × (b ≡ true)
+done_only : (a b : Bool) (x y : Refusal) → cond a (cond b (Ok tt) (Err x)) (Err y) ≡ Ok (tt {0}) → (a ≡ true) × (b ≡ true)
 done_only true true x y e = (refl, refl)
 done_only true false x y e = absurd (refused_never e)
 done_only false b x y e = absurd (refused_never e)
