@@ -8,10 +8,9 @@ ghost use Rattle.math_round.specs.Whole.{abs_of};
 pub fn fabs(x: f64) -> f64
     ensures { result ≡ abs_of x }
 {
-    if x != x {
+    if x.is_nan() {
         x
     } else {
-        let bits = f64::to_bits(x);
-        f64::from_bits(bits % 9223372036854775808)
+        f64::from_bits(x.to_bits() % 9223372036854775808)
     }
 }
