@@ -40,7 +40,7 @@ pub(crate) struct Reduced {
 
 impl Reduced {
     // Of a size up to 2^25, limits included; none beyond, and at a NaN.
-    pub fn of(x: f64) -> Option<Self>
+    pub(crate) fn of(x: f64) -> Option<Self>
         ensures { MatchOption result (le (abs_of x) limit ≡ false) (λ part. Split x part.quadrant part.rest) }
     {
         if math_round::fabs::fabs(x) <= 33554432.0 {
@@ -55,7 +55,7 @@ impl Reduced {
     }
 
     // By the quadrant S, C, −S, −C.
-    pub fn sine(self) -> f64
+    pub(crate) fn sine(self) -> f64
         ensures { result ≡ At sine_in self.quadrant self.rest }
     {
         let r = self.rest;
@@ -68,7 +68,7 @@ impl Reduced {
     }
 
     // The sine a quarter turn on: C, −S, −C, S.
-    pub fn cosine(self) -> f64
+    pub(crate) fn cosine(self) -> f64
         ensures { result ≡ At cosine_in self.quadrant self.rest }
     {
         let on = Reduced {
