@@ -22,7 +22,10 @@ pub fn is_opposite(x: f64, y: f64) -> bool
     ensures answer { result ≡ opposite_of x y }
     ensures if_true { result ≡ true → sin_of y ≡ neg (sin_of x) }
 {
-    let (Some(a), Some(b)) = (Reduced::of(x), Reduced::of(y)) else {
+    let Some(a) = Reduced::of(x) else {
+        return false;
+    };
+    let Some(b) = Reduced::of(y) else {
         return false;
     };
     (a.quadrant + b.quadrant) % 4 == 0 && math_numbers::is_same(b.rest, -a.rest)
