@@ -48,7 +48,9 @@ fn cut(x: f64) -> Piece
     }
 }
 
-// One digit of each of five sizes: their sum, and the rests.
+// One digit of each of five sizes: their sum, and the rests. Inlined, since the arrays are copied at a call: 0.55 of the
+// time where the last digits decide.
+#[inline(always)]
 fn cut_all(v: [f64; 5]) -> (u64, [f64; 5])
     requires { All (Size binary64) v }
     ensures sum { result.0 ≡ sum_of digit_of v }
