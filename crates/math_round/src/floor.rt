@@ -7,7 +7,8 @@ ghost use Rattle.math_round.specs.Whole.{floor_of};
 // 3 · 2^51, in the middle of the f64s whose last digit is worth 1.
 const MIDDLE: f64 = 6755399441055744.0;
 
-// Below 2^50 in size there is a short way, with no branch that turns on the fraction or the sign, as std's has it.
+// Below 2^50 in size there is a way with no branch that turns on the fraction or the sign; std's, which serves beyond,
+// has them.
 pub fn floor(x: f64) -> f64
     ensures { result ≡ floor_of x }
 {
