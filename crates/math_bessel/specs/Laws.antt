@@ -104,6 +104,10 @@ pub record Going (h t s : Float) (k : ℕ) : Type 0 where
 abbrev pub next_term : Float → Float → Float → Float
 next_term h t d = t ⊗ ((h ⊘ d) ⊗ (h ⊘ d))
 
+-- what is told of n terms, the last of which is t, and their sum
+abbrev pub stopped_of : Float → Float → ℕ → Series
+stopped_of t s n = record { sum = s; terms = n; settled = lt t (least ⊗ s) && finite s }
+
 pub start : (h : Float) → Going h (whole 1) (whole 1) 0
 unfolding term partial
 start h = record { room = lit≤ tt; term_is = refl; sum_is = refl; still = ahead_start h }
@@ -114,20 +118,21 @@ module _ {h t s : Float} {k : ℕ} (g : Going h t s k) where
   ends = ap (λ (z : Float). lt z (least ⊗ s)) g.term_is ∙ ap (λ (z : Float). lt (term h k) (least ⊗ z)) g.sum_is
 
   -- where it stops, what the loop has is the series, and its last term and sum tell whether that has settled
-  module _ {b : Bool} (f : b ≡ lt t (least ⊗ s) && finite s) where
-    done : ahead h k ≡ k → record { sum = s; terms = k; settled = b } ≡ series_at h
-    unfolding series_at
-    done e =
-        let n : k ≡ terms_of h = sym e ∙ g.still in
-        ap (λ (b : Bool). record { sum = s; terms = k; settled = b }) (f ∙ ap (λ (b : Bool). b && finite s) ends)
-        ∙ ap (λ (z : Float). record { sum = z; terms = k; settled = small h k && finite z }) g.sum_is
-        ∙ ap (λ (j : ℕ). record { sum = partial h j; terms = j; settled = small h j && finite (partial h j) }) n
+  done : ahead h k ≡ k → stopped_of t s k ≡ series_at h
+  unfolding series_at
+  done e =
+      let n : k ≡ terms_of h = sym e ∙ g.still in
+      ap (λ (b : Bool). record { sum = s; terms = k; settled = b && finite s }) ends
+      ∙ ap (λ (z : Float). record { sum = z; terms = k; settled = small h k && finite z }) g.sum_is
+      ∙ ap (λ (j : ℕ). record { sum = partial h j; terms = j; settled = small h j && finite (partial h j) }) n
 
-    pub at_last : k ≡ 500 → record { sum = s; terms = k; settled = b } ≡ series_at h
-    at_last e = done (ahead_last h k e)
+  pub at_last : 500 ≤ k → stopped_of t s 500 ≡ series_at h
+  at_last l =
+      let e : k ≡ 500 = omega (arith, g.room) in
+      ap (λ (j : ℕ). stopped_of t s j) (sym e) ∙ done (ahead_last h k e)
 
-    pub at_small : lt t (least ⊗ s) ≡ true → record { sum = s; terms = k; settled = b } ≡ series_at h
-    at_small e = done (ahead_stop h k (sym ends ∙ e))
+  pub at_small : lt t (least ⊗ s) ≡ true → stopped_of t s k ≡ series_at h
+  at_small e = done (ahead_stop h k (sym ends ∙ e))
 
   -- one term more, whose number is d
   module _ {d : Float} (e : d ≡ whole (k + 1)) where

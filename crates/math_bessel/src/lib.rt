@@ -2,12 +2,11 @@
 // settled.
 #![tactic(auto)]
 
-ghost use Rattle.std.specs.Prelude.{◌≡◌, ◌&&◌};
+ghost use Rattle.std.specs.Prelude.{◌≡◌};
 ghost use Rattle.std.specs.Float.Ieee.{lt};
-ghost use Rattle.std.specs.Float.Ieee.Scale.{finite};
-ghost use Rattle.laws.specs.Binary64.{◌⊗◌};
+ghost use Rattle.laws.specs.Binary64.{◌⊕◌, ◌⊗◌, whole};
 ghost use Rattle.math_bessel.specs.Series.{least, series_at, series_of};
-ghost use Rattle.math_bessel.specs.Laws.{Going};
+ghost use Rattle.math_bessel.specs.Laws.{Going, half_of, next_term, stopped_of};
 
 // A sum, how many terms after the leading 1 it took, 1 to 500, and whether it has settled: its last term is below 1e-17
 // of it, and it is finite.
@@ -25,54 +24,84 @@ pub struct Pair {
     pub second: f64,
 }
 
-// Whether a series has settled that stopped at this term with this sum.
-fn has_settled(term: f64, sum: f64) -> bool
-    ensures { result ≡ lt term (least ⊗ sum) && finite sum }
-{
-    term < 1e-17 * sum && math_numbers::is_finite(sum)
+// A series on its way: half its argument, the last term taken, and the sum up to it.
+#[derive(Clone, Copy)]
+struct Partial {
+    half: f64,
+    term: f64,
+    sum: f64,
 }
 
-// The series from where it has k terms after the leading 1, of which none but the last may end it. The next term's
-// number is kept as a float, since adding 1 to it is quicker than turning a whole number into one.
-fn rest(half: f64, term: f64, sum: f64, k: u64) -> Series
-    requires { Going half term sum k }
-    ensures { result ≡ series_at half }
-{
-    let mut t = term;
-    let mut s = sum;
-    let mut n = k;
-    let mut d = (k + 1) as f64;
-    loop {
-        if n == 500 {
-            return Series {
-                sum: s,
-                terms: n,
-                settled: has_settled(t, s),
-            };
+impl Partial {
+    // The leading 1 alone. The half is a product, whose bits are those of the quotient: so no machine divides for it,
+    // whatever its compiler does.
+    fn new(x: f64) -> Self
+        ensures { result ≡ record { half = half_of x; term = whole 1; sum = whole 1 } }
+    {
+        Partial {
+            half: x * 0.5,
+            term: 1.0,
+            sum: 1.0,
         }
-        if t < 1e-17 * s {
-            return Series {
-                sum: s,
-                terms: n,
-                settled: has_settled(t, s),
-            };
+    }
+
+    // Whether the last term ends the series.
+    fn ends(self) -> bool
+        ensures { result ≡ lt self.term (least ⊗ self.sum) }
+    {
+        self.term < 1e-17 * self.sum
+    }
+
+    // With one term more, whose number is d: kept as a float by the loops, since adding 1 to it is quicker than turning
+    // a whole number into one.
+    fn next(self, d: f64) -> Self
+        ensures { let t = next_term self.half self.term d in result ≡ record { half = self.half; term = t; sum = self.sum ⊕ t } }
+    {
+        let f = self.half / d;
+        let t = self.term * (f * f);
+        Partial {
+            half: self.half,
+            term: t,
+            sum: self.sum + t,
         }
-        let f = half / d;
-        t = t * (f * f);
-        s = s + t;
-        n += 1;
-        d = d + 1.0;
+    }
+
+    // What it is when it stops after n terms.
+    fn stopped(self, n: u64) -> Series
+        ensures { result ≡ stopped_of self.term self.sum n }
+    {
+        Series {
+            sum: self.sum,
+            terms: n,
+            settled: self.ends() && math_numbers::is_finite(self.sum),
+        }
+    }
+
+    // The series from where it has k terms after the leading 1, of which none but the last may end it.
+    fn rest(self, k: u64) -> Series
+        requires { Going self.half self.term self.sum k }
+        ensures { result ≡ series_at self.half }
+    {
+        let mut p = self;
+        let mut d = (k + 1) as f64;
+        for n in k..500 {
+            if p.ends() {
+                return p.stopped(n);
+            }
+            p = p.next(d);
+            d = d + 1.0;
+        }
+        p.stopped(500)
     }
 }
 
 // I0(x) = 1 + Σ ((x/2)^k / k!)², each term from the one before. It stops after the first term below 1e-17 of the sum,
 // or after 500, as it does for NaN and infinities, and tells whether it has settled. Example: I0(0) is 1, with one term,
-// and settled. The half is a product, whose bits are those of the quotient: so no machine divides for it, whatever its
-// compiler does.
+// and settled.
 pub fn bessel_i0(x: f64) -> Series
     ensures { result ≡ series_of x }
 {
-    rest(x * 0.5, 1.0, 1.0, 0)
+    Partial::new(x).rest(0)
 }
 
 // The sums at x and at y, term by term together as long as both go on: a processor divides two numbers in the time of
@@ -81,33 +110,22 @@ pub fn bessel_i0_pair(x: f64, y: f64) -> Pair
     ensures first { result.first ≡ (series_of x).sum }
     ensures second { result.second ≡ (series_of y).sum }
 {
-    let a = x * 0.5;
-    let b = y * 0.5;
-    let mut t = 1.0;
-    let mut u = 1.0;
-    let mut s = 1.0;
-    let mut r = 1.0;
-    let mut k = 0u64;
+    let mut p = Partial::new(x);
+    let mut q = Partial::new(y);
     let mut d = 1.0;
-    while k < 500 {
-        let ends = t < 1e-17 * s;
-        let ends_too = u < 1e-17 * r;
-        if ends | ends_too {
-            break;
+    for k in 0..500 {
+        if p.ends() | q.ends() {
+            return Pair {
+                first: p.rest(k).sum,
+                second: q.rest(k).sum,
+            };
         }
-        let f = a / d;
-        let g = b / d;
-        t = t * (f * f);
-        u = u * (g * g);
-        s = s + t;
-        r = r + u;
-        k += 1;
+        p = p.next(d);
+        q = q.next(d);
         d = d + 1.0;
     }
-    let first = rest(a, t, s, k);
-    let second = rest(b, u, r, k);
     Pair {
-        first: first.sum,
-        second: second.sum,
+        first: p.sum,
+        second: q.sum,
     }
 }

@@ -1,23 +1,29 @@
 -- How a loop takes the steps of the power 0.4: none is left, one is not smaller, or one is taken. Assumes nothing.
-use Rattle.std.proofs.Common.{◌≡◌, ℕ, zero, suc, ◌-◌, ◌<◌, Bool, true, false, ◌&&◌, sym, refl, ap, sub-one, arith}
+use Rattle.std.proofs.Common.{◌≡◌, ℕ, zero, suc, ◌+◌, ◌-◌, ◌<◌, ◌≤◌, Bool, true, false, ◌&&◌, sym, refl, ap, ◌∙◌, arith}
 use lib.Ieee.{Float, nan, lt, le, eq}
 use Rattle.laws.specs.Binary64.{◌⊗◌, whole}
 use Rattle.math_exp.specs.Pow04.{step, steps_from, steps, pow04_of}
 
-pub none_left : (d : ℕ) (w y : Float) → d ≡ 0 → steps d w y ≡ y
+-- after k steps of d
+pub none_left : (k d : ℕ) (w y : Float) → d ≤ k → steps (d - k) w y ≡ y
 unfolding steps steps_from
-none_left zero w y e = refl
-none_left (suc d) w y e = absurd (omega (arith, e))
+none_left k d w y e = ap (λ (j : ℕ). steps j w y) (over k d e)
+  where
+    over : (k d : ℕ) → d ≤ k → d - k ≡ 0
+    over k d e = omega arith
 
 pub not_smaller : (d : ℕ) (w y : Float) → lt (step w y) y ≡ false → steps d w y ≡ y
 unfolding steps steps_from
 not_smaller zero w y h = refl
 not_smaller (suc d) w y h = ap (λ (b : Bool). steps_from (suc d) b w y (step w y)) h
 
-pub smaller : (d : ℕ) (w y : Float) → 0 < d → lt (step w y) y ≡ true → steps (d - 1) w (step w y) ≡ steps d w y
+pub smaller : (k d : ℕ) (w y : Float) → k < d → lt (step w y) y ≡ true → steps (d - (k + 1)) w (step w y) ≡ steps (d - k) w y
 unfolding steps steps_from
-smaller zero w y p h = absurd (omega (arith, p))
-smaller (suc d) w y p h = rw sub-one (sym (ap (λ (b : Bool). steps_from (suc d) b w y (step w y)) h))
+smaller k d w y l h =
+    sym (ap (λ (j : ℕ). steps j w y) (before k d l) ∙ ap (λ (b : Bool). steps_from (suc (d - (k + 1))) b w y (step w y)) h)
+  where
+    before : (k d : ℕ) → k < d → d - k ≡ suc (d - (k + 1))
+    before k d l = omega arith
 
 -- ---- the range
 module _ (v : Float) where

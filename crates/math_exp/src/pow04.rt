@@ -8,18 +8,14 @@ fn fifth_root(w: f64) -> f64
     ensures { result ≡ steps 100 w (whole 4) }
 {
     let mut y = 4.0;
-    let mut left = 100u32;
-    loop {
-        if left == 0 {
-            break y;
-        }
+    for _ in 0..100u32 {
         let next = (4.0 * y + w / ((y * y) * (y * y))) / 5.0;
         if !(next < y) {
-            break y; // the one before
+            break; // y is the one before
         }
         y = next;
-        left -= 1;
     }
+    y
 }
 
 // v^0.4 for v from 0 to 29, limits included; NaN elsewhere, and at a NaN. A zero of either sign gives +0.

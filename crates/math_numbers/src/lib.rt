@@ -16,8 +16,7 @@ pub const TAP_LIMIT: u64 = 16777216;
 pub fn is_finite(x: f64) -> bool
     ensures { result ≡ finite x }
 {
-    let inf = 1.0 / 0.0;
-    -inf < x && x < inf
+    x.is_finite()
 }
 
 // Whether x is finite and above 0.
@@ -32,11 +31,7 @@ pub fn is_same(x: f64, y: f64) -> bool
     ensures answer { result ≡ same x y }
     ensures if_true { result ≡ true → x ≡ y }
 {
-    if x == y {
-        f64::to_bits(x) == f64::to_bits(y)
-    } else {
-        false
-    }
+    x == y && x.to_bits() == y.to_bits()
 }
 
 // x without its fraction as a count: 0 for NaN and what is below 0, the largest count for what is above it. Rust's `as
@@ -44,13 +39,5 @@ pub fn is_same(x: f64, y: f64) -> bool
 pub fn to_count(x: f64) -> u64
     ensures { result ≡ to_unsigned 64 x }
 {
-    if x > -1.0 {
-        if x < 18446744073709551616.0 {
-            std::num::truncating_f64_to_u64(x)
-        } else {
-            18446744073709551615
-        }
-    } else {
-        0
-    }
+    std::num::saturating_f64_to_u64(x)
 }

@@ -1,4 +1,2 @@
 -- Laws that several proofs of this crate cite, and no other crate.
-mod Signs
-mod FloorPaths
 mod AbsPaths

@@ -1,3 +1,2 @@
 -- Laws that several proofs of this crate cite, and no other crate.
-mod NoNan
-mod Branches
+mod StdRoot

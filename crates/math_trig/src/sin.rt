@@ -4,26 +4,15 @@ ghost use Rattle.std.specs.Float.Ieee.{neg};
 ghost use Rattle.math_trig.specs.Trig.{sin_of};
 ghost use Rattle.math_trig.specs.Opposite.{opposite_of};
 
-use super::reduce::reduce;
-use super::series::{cosine_series, sine_series};
+use super::reduce::Reduced;
 
 // sin(x) for sizes up to 2^25, limits included; NaN beyond, and at a NaN.
 pub fn sin(x: f64) -> f64
     ensures { result ≡ sin_of x }
 {
-    let size = math_round::fabs::fabs(x);
-    if size <= 33554432.0 {
-        let part = reduce(x);
-        let q = part.quadrant;
-        let r = part.rest;
-        match q {
-            0 => sine_series(r),
-            1 => cosine_series(r),
-            2 => -sine_series(r),
-            _ => -cosine_series(r),
-        }
-    } else {
-        0.0 / 0.0
+    match Reduced::of(x) {
+        Some(part) => part.sine(),
+        None => f64::NAN,
     }
 }
 
@@ -33,16 +22,11 @@ pub fn is_opposite(x: f64, y: f64) -> bool
     ensures answer { result ≡ opposite_of x y }
     ensures if_true { result ≡ true → sin_of y ≡ neg (sin_of x) }
 {
-    let most = 33554432.0;
-    if (math_round::fabs::fabs(x) <= most) & (math_round::fabs::fabs(y) <= most) {
-        let a = reduce(x);
-        let b = reduce(y);
-        if (a.quadrant + b.quadrant) % 4 == 0 {
-            math_numbers::is_same(b.rest, -a.rest)
-        } else {
-            false
-        }
-    } else {
-        false
-    }
+    let Some(a) = Reduced::of(x) else {
+        return false;
+    };
+    let Some(b) = Reduced::of(y) else {
+        return false;
+    };
+    (a.quadrant + b.quadrant) % 4 == 0 && math_numbers::is_same(b.rest, -a.rest)
 }

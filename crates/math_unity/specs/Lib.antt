@@ -3,4 +3,5 @@ pub mod Cut
 pub mod Run
 pub mod Digits
 pub mod Parts
+pub mod Props
 pub mod UnityLaws

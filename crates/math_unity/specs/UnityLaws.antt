@@ -1,9 +1,9 @@
 -- The digit by digit comparison decides what the definition asks, and is what the code does turn by turn. Assumes
 -- nothing.
-use Rattle.std.specs.Prelude.{◌≡◌, ℕ, zero, suc, ◌+◌, ◌-◌, ◌*◌, ◌^◌, ◌<◌, ◌≤◌, min, Bool, true, false, ◌&&◌, T, ◌⊎◌, List, [], ◌∷◌, length, ℤ, pos, negsuc, ◌-ℤ◌, neg_ℤ, nat_le, unsigned_abs, refl, Float}
+use Rattle.std.specs.Prelude.{◌≡◌, ℕ, zero, suc, ◌+◌, ◌-◌, ◌*◌, ◌^◌, ◌<◌, ◌≤◌, min, Bool, true, false, ◌&&◌, T, ◌⊎◌, List, [], ◌∷◌, length, get_or, ℤ, pos, negsuc, ◌-ℤ◌, neg_ℤ, nat_le, unsigned_abs, refl, Float}
 use Rattle.std.proofs.Common.{sym, ap, ◌∙◌, subst, inl, inr, le_trans, le_of_eq, mul_assoc, zero-add, add-zero, arith, le-leb, lit≤, lit<}
 use Rattle.std.proofs.lemmas.Bool.{lt-leb}
-use Rattle.std.specs.Float.{Format, binary64}
+use Rattle.std.specs.Float.{nan, Format, binary64}
 use Rattle.std.specs.Float.Ieee.{fits}
 use Rattle.laws.specs.Numbers.{lt_or_le}
 use Rattle.laws.specs.SumError.{sum_of}
@@ -32,32 +32,30 @@ unfolding run run_of
 run_turn zero p n p' n' a b a' b' h e e' g g' = absurd (omega arith)
 run_turn (suc k) p n p' n' a b a' b' h e e' g g' = let z : suc k - 1 ≡ k = omega arith in ap (λ (v : ℕ). run v p' n' a' b') z ∙ rw (e, e', g, g') refl
 
--- what stands with k turns to go, of 21
-pub record Going (p₀ n₀ : List Float) (a₀ b₀ k : ℕ) (p n : List Float) (a b : ℕ) : Type 0 where
-  pub ps : All (Rest binary64) p
-  pub ns : All (Rest binary64) n
-  pub same : run k p n a b ≡ run 21 p₀ n₀ a₀ b₀
-
-pub going_sizes : {p₀ n₀ : List Float} {a₀ b₀ k : ℕ} {p n : List Float} {a b : ℕ} → Going p₀ n₀ a₀ b₀ k p n a b → All (Size binary64) p × All (Size binary64) n
-going_sizes {p = p} {n = n} h = (sizes_of p h.ps, sizes_of n h.ns)
-
-pub going : {p₀ n₀ : List Float} {a₀ b₀ k : ℕ} {p n : List Float} {a b : ℕ} {p' n' : List Float} {a' b' : ℕ} → Going p₀ n₀ a₀ b₀ k p n a b → 1 ≤ k → p' ≡ each_of rest_of p → n' ≡ each_of rest_of n
-    → a' ≡ min (a - b) 6 * 1125899906842624 + sum_of digit_of p → b' ≡ min (b - a) 6 * 1125899906842624 + sum_of digit_of n → Going p₀ n₀ a₀ b₀ (k - 1) p' n' a' b'
-going {p₀} {n₀} {a₀} {b₀} {k} {p} {n} {a} {b} {p'} {n'} {a'} {b'} h l e e' g g' = record { ps = rests_of p p' (sizes_of p h.ps) e; ns = rests_of n n' (sizes_of n h.ns) e'; same = run_turn k p n p' n' a b a' b' l e e' g g' ∙ h.same }
-
-pub going_end : {p₀ n₀ : List Float} {a₀ b₀ k : ℕ} {p n : List Float} {a b : ℕ} → Going p₀ n₀ a₀ b₀ k p n a b → k ≡ 0 → nat_le a b ≡ run 21 p₀ n₀ a₀ b₀
+-- with k turns of j done: none is left, or one is taken
+pub run_end : (k j : ℕ) (p n : List Float) (a b : ℕ) → j ≤ k → nat_le a b ≡ run (j - k) p n a b
 unfolding run run_of
-going_end {k = k} {p} {n} {a} {b} h e = sym (ap (λ (v : ℕ). run v p n a b) e) ∙ h.same
+run_end k j p n a b h = sym (ap (λ (v : ℕ). run v p n a b) (over k j h))
+  where
+    over : (k j : ℕ) → j ≤ k → j - k ≡ 0
+    over k j h = omega arith
 
-pub going_no : {p₀ n₀ : List Float} {a₀ b₀ k : ℕ} {p n : List Float} {a b : ℕ} → Going p₀ n₀ a₀ b₀ k p n a b → length n ≤ 5 → (d : ℕ) → d ≡ min (a - b) 6 → d ≡ 6 → false ≡ run 21 p₀ n₀ a₀ b₀
-unfolding run
-going_no {k = k} {p} {n} {a} {b} h l d e g =
-    sym (decided_no digit_of rest_of (2 ^ 50) (lit≤ tt) (Rest binary64) (λ x r. (cut_f64 x r.size).small) (λ x r. cut_rest x r.size) k p n a b h.ps h.ns l (omega arith)) ∙ h.same
+pub run_on : (k j : ℕ) (p n p' n' : List Float) (a b a' b' : ℕ) → k < j → p' ≡ each_of rest_of p → n' ≡ each_of rest_of n → a' ≡ min (a - b) 6 * 1125899906842624 + sum_of digit_of p → b' ≡ min (b - a) 6 * 1125899906842624 + sum_of digit_of n → run (j - (k + 1)) p' n' a' b' ≡ run (j - k) p n a b
+run_on k j p n p' n' a b a' b' l e e' g g' =
+    ap (λ (v : ℕ). run v p' n' a' b') (next k j l) ∙ run_turn (j - k) p n p' n' a b a' b' (omega arith) e e' g g'
+  where
+    next : (k j : ℕ) → k < j → j - (k + 1) ≡ j - k - 1
+    next k j l = omega arith
 
-pub going_yes : {p₀ n₀ : List Float} {a₀ b₀ k : ℕ} {p n : List Float} {a b : ℕ} → Going p₀ n₀ a₀ b₀ k p n a b → length p ≤ 5 → (d : ℕ) → d ≡ min (b - a) 6 → d ≡ 6 → true ≡ run 21 p₀ n₀ a₀ b₀
-unfolding run
-going_yes {k = k} {p} {n} {a} {b} h l d e g =
-    sym (decided_yes digit_of rest_of (2 ^ 50) (lit≤ tt) (Rest binary64) (λ x r. (cut_f64 x r.size).small) (λ x r. cut_rest x r.size) k p n a b h.ps h.ns l (omega arith)) ∙ h.same
+-- one side is ahead by 6
+module _ (k : ℕ) (p n : List Float) (a b : ℕ) (P : All (Rest binary64) p) (N : All (Rest binary64) n) where
+  pub ahead_no : length n ≤ 5 → min (a - b) 6 ≡ 6 → false ≡ run k p n a b
+  unfolding run
+  ahead_no l e = sym (decided_no digit_of rest_of (2 ^ 50) (lit≤ tt) (Rest binary64) (λ x r. (cut_f64 x r.size).small) (λ x r. cut_rest x r.size) k p n a b P N l (omega arith))
+
+  pub ahead_yes : length p ≤ 5 → min (b - a) 6 ≡ 6 → true ≡ run k p n a b
+  unfolding run
+  ahead_yes l e = sym (decided_yes digit_of rest_of (2 ^ 50) (lit≤ tt) (Rest binary64) (λ x r. (cut_f64 x r.size).small) (λ x r. cut_rest x r.size) k p n a b P N l (omega arith))
 
 -- ---- the comparison
 ends_all : (p : List Float) → All (λ x. Ends (2 ^ 1074) (2 ^ 50) 22 (mag binary64 x)) p
@@ -122,6 +120,15 @@ near_law cs H l =
     ∙ sym (near_as binary64 cs (2 ^ 1074) (2 ^ 1034))
 
 -- ---- five numbers
+pub five_of : (v : List Float) → length v ≡ 5 → v ≡ five (get_or v 0 nan) (get_or v 1 nan) (get_or v 2 nan) (get_or v 3 nan) (get_or v 4 nan)
+five_of [] h = absurd (omega arith)
+five_of (a ∷ []) h = absurd (omega arith)
+five_of (a ∷ b ∷ []) h = absurd (omega arith)
+five_of (a ∷ b ∷ c ∷ []) h = absurd (omega arith)
+five_of (a ∷ b ∷ c ∷ d ∷ []) h = absurd (omega arith)
+five_of (a ∷ b ∷ c ∷ d ∷ e ∷ []) h = refl
+five_of (a ∷ b ∷ c ∷ d ∷ e ∷ f ∷ xs) h = absurd (omega arith)
+
 -- the code's test of all, and what it tells
 pub all_five : (a b c d e : Float) → ((((within a && within b) && within c) && within d) && within e) ≡ all_within (five a b c d e)
 unfolding all_within
@@ -143,6 +150,3 @@ all_held (x ∷ xs) f e = let b = both (within x) (all_within xs) e in (record {
 module _ (cs : List Float) {p n : List Float} (H : All Held cs) (e : p ≡ each_of pos_of cs) (g : n ≡ each_of neg_of cs) where
   pub both_sizes : All (Size binary64) p × All (Size binary64) n
   both_sizes = (subst (All (Size binary64)) (sym e) (pos_sizes cs H), subst (All (Size binary64)) (sym g) (neg_sizes cs H))
-
-  pub near_by : (r : Bool) → length cs ≤ 5 → all_within cs ≡ true → r ≡ near_run p n → r ≡ (all_within cs && near_one cs)
-  near_by r l t h = h ∙ rw (e, g, t) (near_law cs H l)

@@ -2,14 +2,18 @@
 // `requires`.
 #![tactic(auto)]
 
-ghost use Rattle.std.specs.Prelude.{◌≡◌, ◌+◌, ◌-◌, ◌*◌, ◌≤◌, min, true, ◌&&◌};
+ghost use Rattle.std.specs.Prelude.{◌≡◌, ◌+◌, ◌-◌, ◌*◌, ◌≤◌, min, true, ◌&&◌, Float};
 ghost use Rattle.std.specs.Float.{binary64};
 ghost use Rattle.laws.specs.SumError.{sum_of};
 ghost use Rattle.math_unity.specs.Unity.{within, all_within, near_one, five};
 ghost use Rattle.math_unity.specs.Cut.{Size, Rest, digit_of, rest_of};
 ghost use Rattle.math_unity.specs.Run.{All, each_of};
-ghost use Rattle.math_unity.specs.Digits.{pos_of, neg_of, run, near_run};
+ghost use Rattle.math_unity.specs.Digits.{pos_of, neg_of, run};
 ghost use Rattle.math_unity.specs.Parts.{Held};
+ghost use Rattle.math_unity.specs.Props.{rests_prop};
+
+// 1 after the first digit, of which 2^-40 is 1024.
+const ONE: u64 = 1125899906842624;
 
 // A digit of a number, 50 bits of it, and the rest.
 #[derive(Clone, Copy)]
@@ -18,29 +22,15 @@ struct Piece {
     rest: f64,
 }
 
-#[derive(Clone, Copy)]
-struct Five {
-    a: f64,
-    b: f64,
-    c: f64,
-    d: f64,
-    e: f64,
-}
-
-// The sum of five numbers' digits, and their rests.
-#[derive(Clone, Copy)]
-struct Pieces {
-    sum: u64,
-    rest: Five,
-}
-
-// The sizes of the numbers above 0 and of those below it, and what was counted of each.
+// What is left of the sizes of the numbers above 0 and of those below it, and what was counted of each.
 #[derive(Clone, Copy)]
 struct Sides {
-    p: Five,
-    n: Five,
+    p: [f64; 5],
+    n: [f64; 5],
     a: u64,
     b: u64,
+    ghost of_p: { All (Rest binary64) p } by { rests_prop p },
+    ghost of_n: { All (Rest binary64) n } by { rests_prop n },
 }
 
 // One digit of a size of 1 at most: x times 2^50, its whole part, and what is left, each exact.
@@ -58,113 +48,78 @@ fn cut(x: f64) -> Piece
     }
 }
 
-// One digit of each of five sizes.
-fn cut_five(v: Five) -> Pieces
-    requires { All (Size binary64) (five v.a v.b v.c v.d v.e) }
-    ensures sum { result.sum ≡ sum_of digit_of (five v.a v.b v.c v.d v.e) }
-    ensures rest { five result.rest.a result.rest.b result.rest.c result.rest.d result.rest.e ≡ each_of rest_of (five v.a v.b v.c v.d v.e) }
-    ensures sum_high { result.sum ≤ 5629499534213120 }
+// One digit of each of five sizes: their sum, and the rests. Inlined, since the arrays are copied at a call: 0.55 of the
+// time where the last digits decide.
+#[inline(always)]
+fn cut_all(v: [f64; 5]) -> (u64, [f64; 5])
+    requires { All (Size binary64) v }
+    ensures sum { result.0 ≡ sum_of digit_of v }
+    ensures rests { result.1 ≡ each_of rest_of v }
+    ensures sum_high { result.0 ≤ 5629499534213120 }
 {
-    let a = cut(v.a);
-    let b = cut(v.b);
-    let c = cut(v.c);
-    let d = cut(v.d);
-    let e = cut(v.e);
-    Pieces {
-        sum: a.digit + (b.digit + (c.digit + (d.digit + e.digit))),
-        rest: Five {
-            a: a.rest,
-            b: b.rest,
-            c: c.rest,
-            d: d.rest,
-            e: e.rest,
-        },
-    }
+    let [a, b, c, d, e] = v;
+    let a = cut(a);
+    let b = cut(b);
+    let c = cut(c);
+    let d = cut(d);
+    let e = cut(e);
+    (
+        a.digit + (b.digit + (c.digit + (d.digit + e.digit))),
+        [a.rest, b.rest, c.rest, d.rest, e.rest],
+    )
+}
+
+// What f gives of each of five numbers.
+fn each<F: Fn(f64) -> f64>(v: [f64; 5], f: F) -> [f64; 5]
+    requires { F.IsAlwaysCallable f }
+    ensures { (g : Float → Float) → ((x y : Float) → F.post f x y → y ≡ g x) → result ≡ each_of g v }
+{
+    let [a, b, c, d, e] = v;
+    [f(a), f(b), f(c), f(d), f(e)]
 }
 
 // a less b: 0 at least, and 6 at most.
 fn ahead(a: u64, b: u64) -> u64
     ensures { result ≡ min (a - b) 6 }
 {
-    if a <= b {
-        0
-    } else if a - b < 6 {
-        a - b
-    } else {
-        6
-    }
+    a.saturating_sub(b).min(6)
 }
 
-// A digit more of each number. Of what was counted only the difference matters, and 6 is as good as more.
-fn turn(s: Sides) -> Sides
-    requires of_p { All (Size binary64) (five s.p.a s.p.b s.p.c s.p.d s.p.e) }
-    requires of_n { All (Size binary64) (five s.n.a s.n.b s.n.c s.n.d s.n.e) }
-    ensures of_p { five result.p.a result.p.b result.p.c result.p.d result.p.e ≡ each_of rest_of (five s.p.a s.p.b s.p.c s.p.d s.p.e) }
-    ensures of_n { five result.n.a result.n.b result.n.c result.n.d result.n.e ≡ each_of rest_of (five s.n.a s.n.b s.n.c s.n.d s.n.e) }
-    ensures a { result.a ≡ min (s.a - s.b) 6 * 1125899906842624 + sum_of digit_of (five s.p.a s.p.b s.p.c s.p.d s.p.e) }
-    ensures b { result.b ≡ min (s.b - s.a) 6 * 1125899906842624 + sum_of digit_of (five s.n.a s.n.b s.n.c s.n.d s.n.e) }
-{
-    let p = s.p;
-    let n = s.n;
-    let x = cut_five(p);
-    let y = cut_five(n);
-    let a = ahead(s.a, s.b);
-    let b = ahead(s.b, s.a);
-    let i = x.rest;
-    let j = y.rest;
-    Sides {
-        p: i,
-        n: j,
-        a: a * 1125899906842624 + x.sum,
-        b: b * 1125899906842624 + y.sum,
-    }
-}
-
-// Whether the one side is no more than the other, exactly. It is decided where what was counted differs by 6, since
-// five rests are below 5; and after 21 turns nothing is left of any number.
-fn no_more(s: Sides) -> bool
-    requires of_p { All (Rest binary64) (five s.p.a s.p.b s.p.c s.p.d s.p.e) }
-    requires of_n { All (Rest binary64) (five s.n.a s.n.b s.n.c s.n.d s.n.e) }
-    ensures { result ≡ run 21 (five s.p.a s.p.b s.p.c s.p.d s.p.e) (five s.n.a s.n.b s.n.c s.n.d s.n.e) s.a s.b }
-{
-    let mut t = s;
-    let mut left: u64 = 21;
-    while left > 0 {
-        if ahead(t.a, t.b) == 6 {
-            return false;
+impl Sides {
+    // A digit more of each number. Of what was counted only the difference matters, and 6 is as good as more.
+    fn turn(self) -> Self
+        ensures of_p { result.p ≡ each_of rest_of self.p }
+        ensures of_n { result.n ≡ each_of rest_of self.n }
+        ensures a { result.a ≡ min (self.a - self.b) 6 * 1125899906842624 + sum_of digit_of self.p }
+        ensures b { result.b ≡ min (self.b - self.a) 6 * 1125899906842624 + sum_of digit_of self.n }
+    {
+        let (a, p) = cut_all(self.p);
+        let (b, n) = cut_all(self.n);
+        Sides {
+            p,
+            n,
+            a: ahead(self.a, self.b) * ONE + a,
+            b: ahead(self.b, self.a) * ONE + b,
         }
-        if ahead(t.b, t.a) == 6 {
-            return true;
-        }
-        t = turn(t);
-        left -= 1;
     }
-    t.a <= t.b
-}
 
-// Whether p less n is within 2^-40 of 1. After the first digits 1 is 2^50 and 2^-40 is 1024; then two comparisons.
-fn near_one(p: Five, n: Five) -> bool
-    requires of_p { All (Size binary64) (five p.a p.b p.c p.d p.e) }
-    requires of_n { All (Size binary64) (five n.a n.b n.c n.d n.e) }
-    ensures { result ≡ near_run (five p.a p.b p.c p.d p.e) (five n.a n.b n.c n.d n.e) }
-{
-    let x = cut_five(p);
-    let y = cut_five(n);
-    let i = x.rest;
-    let j = y.rest;
-    let above = Sides {
-        p: i,
-        n: j,
-        a: x.sum,
-        b: y.sum + 1125899906842624 + 1024,
-    };
-    let below = Sides {
-        p: j,
-        n: i,
-        a: y.sum + 1125899906842624,
-        b: x.sum + 1024,
-    };
-    no_more(above) & no_more(below)
+    // Whether the one side is no more than the other, exactly. It is decided where what was counted differs by 6, since
+    // five rests are below 5; and after 21 turns nothing is left of any number.
+    fn no_more(self) -> bool
+        ensures { result ≡ run 21 self.p self.n self.a self.b }
+    {
+        let mut t = self;
+        for _ in 0..21u64 {
+            if ahead(t.a, t.b) == 6 {
+                return false;
+            }
+            if ahead(t.b, t.a) == 6 {
+                return true;
+            }
+            t = t.turn();
+        }
+        t.a <= t.b
+    }
 }
 
 // The size of x where it is above 0, else 0.
@@ -181,28 +136,26 @@ fn below(x: f64) -> f64
     if x < 0.0 { -x } else { 0.0 }
 }
 
-fn five_above(v: Five) -> Five
-    ensures { five result.a result.b result.c result.d result.e ≡ each_of pos_of (five v.a v.b v.c v.d v.e) }
+// Whether the sum of five numbers, each within 1, is within 2^-40 of 1: two comparisons after the first digits.
+fn near_one(v: [f64; 5]) -> bool
+    requires { All Held v }
+    ensures { result ≡ near_one v }
 {
-    Five {
-        a: above(v.a),
-        b: above(v.b),
-        c: above(v.c),
-        d: above(v.d),
-        e: above(v.e),
-    }
-}
-
-fn five_below(v: Five) -> Five
-    ensures { five result.a result.b result.c result.d result.e ≡ each_of neg_of (five v.a v.b v.c v.d v.e) }
-{
-    Five {
-        a: below(v.a),
-        b: below(v.b),
-        c: below(v.c),
-        d: below(v.d),
-        e: below(v.e),
-    }
+    let (a, p) = cut_all(each(v, above));
+    let (b, n) = cut_all(each(v, below));
+    let upper = Sides {
+        p,
+        n,
+        a,
+        b: b + ONE + 1024,
+    };
+    let lower = Sides {
+        p: n,
+        n: p,
+        a: b + ONE,
+        b: a + 1024,
+    };
+    upper.no_more() & lower.no_more()
 }
 
 // Whether x is finite and of size 1 at most.
@@ -213,10 +166,11 @@ pub fn is_within(x: f64) -> bool
 }
 
 // Whether five numbers are.
-fn all_within(a: f64, b: f64, c: f64, d: f64, e: f64) -> bool
-    ensures answer { result ≡ all_within (five a b c d e) }
-    ensures if_true { result ≡ true → All Held (five a b c d e) }
+fn all_within(v: [f64; 5]) -> bool
+    ensures answer { result ≡ all_within v }
+    ensures if_true { result ≡ true → All Held v }
 {
+    let [a, b, c, d, e] = v;
     is_within(a) & is_within(b) & is_within(c) & is_within(d) & is_within(e)
 }
 
@@ -224,17 +178,6 @@ fn all_within(a: f64, b: f64, c: f64, d: f64, e: f64) -> bool
 pub fn sums_to_one(a: f64, b: f64, c: f64, d: f64, e: f64) -> bool
     ensures { result ≡ (all_within (five a b c d e) && near_one (five a b c d e)) }
 {
-    if !all_within(a, b, c, d, e) {
-        return false;
-    }
-    let v = Five {
-        a: a,
-        b: b,
-        c: c,
-        d: d,
-        e: e,
-    };
-    let p = five_above(v);
-    let n = five_below(v);
-    near_one(p, n)
+    let v = [a, b, c, d, e];
+    all_within(v) && near_one(v)
 }

@@ -1,35 +1,43 @@
 -- `math_bessel::bessel_i0_pair` meets its contract. The loop's invariant: the terms so far of both, none before the
 -- last small. Assumes nothing.
-use mathlib.Core.Path.{refl}
-use Prim.Native.Nat.{◌+◌}
-use native.Mathlib.Omega.{arith}
+use Rattle.std.proofs.Common.{◌+◌, refl, sym, ap, ◌∙◌, arith}
 use lib.Ieee.{binary64, of_bits, of_int, round}
 use Rattle.laws.specs.Tests.{neither}
 use Rattle.laws.specs.WholeSums.{add_one_whole}
-use Rattle.math_bessel.specs.Laws.{start, again, half_of, sum_is}
+use Rattle.math_bessel.specs.Series.{series_at}
+use Rattle.math_bessel.specs.Laws.{start, again, at_last, half_of, sum_is}
 use Rattle.math_bessel.proofs.bessel_i0_pair.Goals as goal
 
 pub loop-k-init : goal.loop-k-init
-unfolding of_int of_bits round
-loop-k-init c = (start (half_of c.args.x), start (half_of c.args.y), refl)
+unfolding of_int of_bits
+loop-k-init c = record {
+  first = rw c.new-p.ensures (start (half_of c.args.x));
+  second = rw c.new-q.ensures (start (half_of c.args.y));
+  half = rw c.new-p.ensures refl;
+  other_half = rw c.new-q.ensures refl;
+  number = refl;
+}
 
 pub loop-k-preserved : goal.loop-k-preserved
 unfolding of_int of_bits round
 loop-k-preserved c =
-    let l = c.loop-k-test.true in
-    let on = neither _ _ c.if-ends-ends_too.false in
-    (again c.loop-k.invariant.0 c.loop-k.invariant.2 l on.0, again c.loop-k.invariant.1 c.loop-k.invariant.2 l on.1, add_one_whole binary64 (c.loop-k.k + 1) (omega arith) c.loop-k.invariant.2)
+    let on = c.loop-k.invariant in
+    let still = neither _ _ c.if-ends.false in
+    record {
+      first = rw c.next-p.ensures (again on.first on.number c.loop-k-test.true (sym c.ends.ensures ∙ still.0));
+      second = rw c.next-q.ensures (again on.second on.number c.loop-k-test.true (sym c.ends-in-loop-k.ensures ∙ still.1));
+      half = rw c.next-p.ensures on.half;
+      other_half = rw c.next-q.ensures on.other_half;
+      number = add_one_whole binary64 (c.loop-k.k + 1) (omega arith) on.number;
+    }
 
-pub rest-first-requires : goal.rest-first-requires
-unfolding of_int of_bits round
-rest-first-requires c = c.loop-k.invariant.0
-
-pub rest-second-requires : goal.rest-second-requires
-unfolding of_int of_bits round
-rest-second-requires c = c.loop-k.invariant.1
+pub returns-then-ends : goal.returns-then-ends
+returns-then-ends c =
+    let on = c.loop-k.invariant in
+    record { first = sum_is c.args.x (c.rest.ensures ∙ ap series_at on.half); second = sum_is c.args.y (c.rest-then-ends.ensures ∙ ap series_at on.other_half) }
 
 pub returns : goal.returns
-unfolding of_int of_bits round
 returns c =
-    let a = c.args in
-    record { first = sum_is a.x c.rest-first.ensures; second = sum_is a.y c.rest-second.ensures }
+    let on = c.loop-k.invariant in
+    let l = c.loop-k-test.false in
+    record { first = sum_is c.args.x (at_last on.first l ∙ ap series_at on.half); second = sum_is c.args.y (at_last on.second l ∙ ap series_at on.other_half) }

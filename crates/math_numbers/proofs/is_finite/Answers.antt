@@ -1,12 +1,15 @@
--- `math_numbers::is_finite` meets its contract. Assumes nothing.
-use lib.Ieee.{lt, div, neg, of_bits}
-use Rattle.laws.specs.Tests.{below_inf, above_inf}
+-- `math_numbers::is_finite` meets its contract: std's word for it has the same cases. Assumes nothing.
+use Rattle.std.proofs.Common.{◌≡◌, refl, ◌∙◌}
+use Rattle.std.specs.Float.{float_is_finite}
+use lib.Ieee.{Float, nan, inf, fin}
+use lib.Ieee.Scale.{finite}
 use Rattle.math_numbers.proofs.is_finite.Goals as goal
 
-pub returns-then-inf-x : goal.returns-then-inf-x
-unfolding lt div neg of_bits
-returns-then-inf-x c = below_inf c.args.x c.if-inf-x.true
+same_cases : (x : Float) → float_is_finite x ≡ finite x
+unfolding float_is_finite
+same_cases nan = refl
+same_cases (inf s) = refl
+same_cases (fin s m e) = refl
 
-pub returns-else-inf-x : goal.returns-else-inf-x
-unfolding lt div neg of_bits
-returns-else-inf-x c = above_inf c.args.x c.if-inf-x.false
+pub returns : goal.returns
+returns c = c.is_finite.ensures.value ∙ same_cases c.args.x

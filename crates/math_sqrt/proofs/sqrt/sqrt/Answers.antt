@@ -1,42 +1,25 @@
--- `math_sqrt::sqrt::sqrt` meets its contract. Each branch is a law of `Branches`. Assumes nothing.
-use mathlib.Core.Path.{sym, subst}
-use Prim.Native.Nat.{◌/◌, ◌%◌, ◌^◌}
-use lib.Dec.{T}
-use lib.Ieee.{binary64, fits, of_bits, to_bits, div}
-use Rattle.math_sqrt.specs.Patterns.{mag_of}
-use Rattle.math_sqrt.proofs.NoNan.{finite_bits, below_no_nan}
-use Rattle.math_sqrt.specs.Nearest.{pattern_lt}
-use Rattle.math_sqrt.proofs.Branches.{asked, at_positive, at_top, at_zero, below_zero}
+-- `math_sqrt::sqrt::sqrt` meets its contract: std's root is this one, and what has none is a NaN. Assumes nothing.
+use Rattle.std.proofs.Common.{◌*◌, lit<, arith, eq-eqb, ◌≡◌, true, false, T, zero, suc, pos, sym, refl, subst, ◌∙◌, true≢false}
+use lib.Ieee.{Float, nan, inf, fin, of_bits, div, le, lt, eq, up, down}
+use lib.Ieee.Fits.{down_pos}
+use lib.Ieee.Order.{le_of_values}
+use Rattle.math_sqrt.specs.Sqrt.{sqrt_of}
+use Rattle.math_sqrt.proofs.StdRoot.{sqrt_is}
 use Rattle.math_sqrt.proofs.sqrt.sqrt.Goals as goal
 
-pub float_to_bits-b : goal.float_to_bits-b
-float_to_bits-b c = below_no_nan c.args.x _ c.if-x-2.true
+pub returns-then-x : goal.returns-then-x
+returns-then-x c = c.sqrt.ensures.value ∙ sqrt_is c.args.x (subst T (sym c.well_formed.0.1) tt)
 
-pub sqrt_bits-r-requires : goal.sqrt_bits-r-requires
+-- what is not from 0 up is a NaN, or below 0 and no zero
+none : (x : Float) → le (fin false 0 (pos 0)) x ≡ false → nan ≡ sqrt_of x
+unfolding sqrt_of le lt eq
+none nan a = refl
+none (inf true) a = refl
+none (inf false) a = absurd (true≢false a)
+none (fin false m e) a = absurd (subst T a (le_of_values (fin false 0 (pos 0)) (fin false m e) 0 1 (m * up e) (down e) (lit< tt) (down_pos e) (refl, refl) (refl, refl) (omega arith)))
+none (fin true zero e) a = absurd (true≢false (sym (rw (eq-eqb (0 * 1 * down e) (0 * up e * 1) (omega arith), eq-eqb (0 * 1 * down e) 0 (omega arith)) refl) ∙ a))
+none (fin true (suc m) e) a = refl
+
+pub returns-else-x : goal.returns-else-x
 unfolding of_bits div
-sqrt_bits-r-requires c =
-    let held : T (fits binary64 c.args.x) = subst T (sym c.well_formed.0.1) tt in
-    let both_of = asked c.args.x c.if-x.true c.if-x-2.true held in record { b_low = both_of.0; b_high = both_of.1 }
-
-pub float_from_bits-result : goal.float_from_bits-result
-float_from_bits-result c =
-    let b = to_bits binary64 c.args.x in
-    finite_bits c.sqrt_bits-r.result (pattern_lt (mag_of (b / 2 ^ 52) (b % 2 ^ 52)) c.sqrt_bits-r.result c.sqrt_bits-r.ensures)
-
-pub returns-then-x-2 : goal.returns-then-x-2
-unfolding of_bits div
-returns-then-x-2 c =
-    let held : T (fits binary64 c.args.x) = subst T (sym c.well_formed.0.1) tt in
-    at_positive c.sqrt_bits-r.result c.args.x c.if-x.true c.if-x-2.true held c.sqrt_bits-r.ensures
-
-pub returns-else-x-2 : goal.returns-else-x-2
-unfolding of_bits div
-returns-else-x-2 c = at_top c.args.x c.if-x.true c.if-x-2.false
-
-pub returns-then-x-3 : goal.returns-then-x-3
-unfolding of_bits
-returns-then-x-3 c = at_zero c.args.x c.if-x-3.true
-
-pub returns-else-x-3 : goal.returns-else-x-3
-unfolding of_bits div
-returns-else-x-3 c = below_zero c.args.x c.if-x.false c.if-x-3.false
+returns-else-x c = none c.args.x c.if-x.false

@@ -1,4 +1,4 @@
--- `math_trig::reduce::modulo_4` meets its contract: the last two bits of a pattern, by `specs/Modulo.antt`. Assumes
+-- `math_trig::reduce::modulo_4` meets its contract: the last two bits of a pattern, by `proofs/Modulo`. Assumes
 -- nothing.
 use lib.Ieee.{of_bits}
 use Rattle.math_trig.proofs.Modulo.{modulo_is, modulo_asked}
