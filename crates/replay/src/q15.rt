@@ -1,27 +1,22 @@
-// Kinds 29 and 30: single numbers to Q15.
-use c_math::single::{pel_q15_from_f64, pel_q15_tap};
-use replay_lines::line::WORDS;
-use replay_lines::pattern::float_at;
-use replay_lines::tally::Verdict;
-use replay_lines::{lent, tally, told};
+// Single numbers to Q15 and Q14.
+use c_math::single::{pel_q14_from_f64, pel_q15_from_f64, pel_q15_tap};
+use replay_lines::told;
+use wire::float_of;
 
 // A Q15 number is a word of its two bytes, as they stand in a buffer.
-fn judge_number(words: &[u64; WORDS], count: usize) -> Verdict {
-    if count != 2 {
-        return Verdict::Unreadable;
-    }
-    let mut out = lent::marked();
-    wire::put_i16(&mut out, 0, pel_q15_from_f64(float_at(words, 0)));
-    tally::judged(lent::holds(&out, words, 1, 1, 2))
+pub(crate) fn q15_from_f64(words: &[u64]) -> Option<bool> {
+    let [x, code] = words else {
+        return None;
+    };
+    Some(wire::bits_of(pel_q15_from_f64(float_of(*x))) == *code)
 }
 
-fn judge_tap(words: &[u64; WORDS], count: usize) -> Verdict {
-    told::judge(pel_q15_tap(float_at(words, 0)), words, 1, count)
+pub(crate) fn q15_tap(words: &[u64]) -> Option<bool> {
+    let (&[tap], report) = words.split_first_chunk::<1>()?;
+    told::judge(pel_q15_tap(float_of(tap)), report)
 }
 
-pub(crate) fn judge(kind: usize, words: &[u64; WORDS], count: usize) -> Verdict {
-    match kind {
-        29 => judge_number(words, count),
-        _ => judge_tap(words, count),
-    }
+pub(crate) fn q14_from_f64(words: &[u64]) -> Option<bool> {
+    let (&[x], report) = words.split_first_chunk::<1>()?;
+    told::judge(pel_q14_from_f64(float_of(x)), report)
 }

@@ -1,30 +1,14 @@
-// Kinds 32, 33 and 38: a pulse's length and design, and one Q14 number. A line has the arguments of an export and its
-// report.
-use c_math::single::pel_q14_from_f64;
+// A pulse's length and design. A line has the arguments of an export and its report.
 use c_pulses::cosine::{pel_rrc_len, pel_rrc_new};
-use replay_lines::line::WORDS;
-use replay_lines::pattern::float_at;
-use replay_lines::tally::Verdict;
 use replay_lines::told;
-use verdict::Report;
+use wire::float_of;
 
-// How many words a kind has before its report.
-fn arguments(kind: usize) -> usize {
-    match kind {
-        32 => 2,
-        33 => 3,
-        _ => 1,
-    }
+pub(crate) fn rrc_len(words: &[u64]) -> Option<bool> {
+    let (&[samples, span], report) = words.split_first_chunk::<2>()?;
+    told::judge(pel_rrc_len(samples, span), report)
 }
 
-fn answer(kind: usize, words: &[u64; WORDS]) -> Report {
-    match kind {
-        32 => pel_rrc_len(words[0], words[1]),
-        33 => pel_rrc_new(float_at(words, 0), words[1], words[2]),
-        _ => pel_q14_from_f64(float_at(words, 0)),
-    }
-}
-
-pub(crate) fn judge(kind: usize, words: &[u64; WORDS], count: usize) -> Verdict {
-    told::judge(answer(kind, words), words, arguments(kind), count)
+pub(crate) fn rrc_new(words: &[u64]) -> Option<bool> {
+    let (&[rolloff, samples, span], report) = words.split_first_chunk::<3>()?;
+    told::judge(pel_rrc_new(float_of(rolloff), samples, span), report)
 }

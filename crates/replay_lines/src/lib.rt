@@ -2,6 +2,7 @@
 #![tactic(auto)]
 
 pub mod converted;
+pub mod kind;
 pub mod lent;
 pub mod line;
 pub mod offered;
