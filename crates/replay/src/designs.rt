@@ -1,8 +1,8 @@
-// The half-band, the Gaussian pulse and the channelizer without a buffer. A line has the arguments of an export and its
-// report.
+// The half-band, the pulses and the channelizer without a buffer. A line has the arguments of an export and its report.
 use c_lowpass::prototype::{
     pel_channelizer_lowpass, pel_channelizer_taps, pel_channelizer_taps_per_branch,
 };
+use c_pulses::cosine::{pel_rrc_len, pel_rrc_new};
 use c_pulses::halfbands::pel_halfband_new;
 use c_pulses::pulse::pel_gaussian_new;
 use replay_lines::told;
@@ -17,6 +17,16 @@ pub(crate) fn halfband_new(words: &[u64]) -> Option<bool> {
 pub(crate) fn gaussian_new(words: &[u64]) -> Option<bool> {
     let (&[bt, samples, span], report) = words.split_first_chunk::<3>()?;
     told::judge(pel_gaussian_new(float_of(bt), samples, span), report)
+}
+
+pub(crate) fn rrc_len(words: &[u64]) -> Option<bool> {
+    let (&[samples, span], report) = words.split_first_chunk::<2>()?;
+    told::judge(pel_rrc_len(samples, span), report)
+}
+
+pub(crate) fn rrc_new(words: &[u64]) -> Option<bool> {
+    let (&[rolloff, samples, span], report) = words.split_first_chunk::<3>()?;
+    told::judge(pel_rrc_new(float_of(rolloff), samples, span), report)
 }
 
 // Both lengths of a channelizer take the same arguments.

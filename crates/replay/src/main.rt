@@ -8,8 +8,7 @@ mod elementary;
 mod lengths;
 mod level;
 mod lowpasses;
-mod q15;
-mod told;
+mod single;
 mod windows;
 mod written;
 
@@ -59,16 +58,16 @@ fn judge(kind: Kind, words: &[u64]) -> Option<bool> {
         Kind::ChannelizerTapsPerBranch => designs::channelizer_taps_per_branch(words),
         Kind::ChannelizerLowpass => designs::channelizer_lowpass(words),
         Kind::ChannelizerPrototype => written::channelizer_prototype(words),
-        Kind::Q15FromF64 => q15::q15_from_f64(words),
-        Kind::Q15Tap => q15::q15_tap(words),
+        Kind::Q15FromF64 => single::q15_from_f64(words),
+        Kind::Q15Tap => single::q15_tap(words),
         Kind::ToQ15 => converted::to_q15(words),
-        Kind::RrcLen => told::rrc_len(words),
-        Kind::RrcNew => told::rrc_new(words),
+        Kind::RrcLen => designs::rrc_len(words),
+        Kind::RrcNew => designs::rrc_new(words),
         Kind::Rrc => written::rrc(words),
         Kind::BiquadCoefs => written::biquad_coefs(words),
         Kind::ButterworthSos => written::butterworth_sos(words),
         Kind::PreemphasisCoefs => written::preemphasis_coefs(words),
-        Kind::Q14FromF64 => q15::q14_from_f64(words),
+        Kind::Q14FromF64 => single::q14_from_f64(words),
         Kind::ToQ14 => converted::to_q14(words),
         Kind::ToF32 => converted::to_f32(words),
         Kind::ToF32Sos => converted::to_f32_sos(words),
@@ -91,7 +90,7 @@ fn judge_line(text: &[u8]) -> Option<(Kind, bool)> {
 
 fn main(rt: HostRuntime) {
     let mut tally = Tally::default();
-    source::for_each_line(&rt, &mut rt.stdin(), |text: &[u8]| {
+    source::for_each_line(&rt, &mut rt.stdin(), |text| {
         tally.note(&rt, judge_line(text));
     });
     tally.print(&rt);

@@ -13,7 +13,7 @@ pub(crate) fn judge<F: FnOnce(u64, &mut [u8]) -> Report>(
     requires { F.IsAlwaysCallable export }
 {
     let (&[symmetry], samples) = words.split_first_chunk::<1>()?;
-    written::judge(samples, width, |out: &mut [u8]| export(symmetry, out))
+    written::judge(samples, width, |out| export(symmetry, out))
 }
 
 // A window that has a shape before it.
@@ -25,9 +25,5 @@ pub(crate) fn judge_kaiser<F: FnOnce(f64, u64, &mut [u8]) -> Report>(
     requires { F.IsAlwaysCallable export }
 {
     let (&[beta, symmetry], samples) = words.split_first_chunk::<2>()?;
-    written::judge(
-        samples,
-        width,
-        |out: &mut [u8]| export(float_of(beta), symmetry, out),
-    )
+    written::judge(samples, width, |out| export(float_of(beta), symmetry, out))
 }

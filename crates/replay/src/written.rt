@@ -16,7 +16,7 @@ const TAP: usize = 8;
 
 pub(crate) fn lowpass(words: &[u64]) -> Option<bool> {
     let (&[cutoff, rate, window, beta], written) = words.split_first_chunk::<4>()?;
-    judge(written, TAP, |out: &mut [u8]| {
+    judge(written, TAP, |out| {
         pel_lowpass(
             float_of(cutoff),
             float_of(rate),
@@ -29,7 +29,7 @@ pub(crate) fn lowpass(words: &[u64]) -> Option<bool> {
 
 pub(crate) fn spec_design(words: &[u64]) -> Option<bool> {
     let (&[cutoff, transition, attenuation, rate, cap], written) = words.split_first_chunk::<5>()?;
-    judge(written, TAP, |out: &mut [u8]| {
+    judge(written, TAP, |out| {
         pel_spec_design(
             float_of(cutoff),
             float_of(transition),
@@ -43,11 +43,7 @@ pub(crate) fn spec_design(words: &[u64]) -> Option<bool> {
 
 pub(crate) fn halfband(words: &[u64]) -> Option<bool> {
     let (&[beta], written) = words.split_first_chunk::<1>()?;
-    judge(
-        written,
-        TAP,
-        |out: &mut [u8]| pel_halfband(float_of(beta), out),
-    )
+    judge(written, TAP, |out| pel_halfband(float_of(beta), out))
 }
 
 pub(crate) fn gaussian(words: &[u64]) -> Option<bool> {
@@ -55,7 +51,7 @@ pub(crate) fn gaussian(words: &[u64]) -> Option<bool> {
     judge(
         written,
         TAP,
-        |out: &mut [u8]| pel_gaussian(float_of(bt), samples, span, out),
+        |out| pel_gaussian(float_of(bt), samples, span, out),
     )
 }
 
@@ -63,7 +59,7 @@ pub(crate) fn channelizer_prototype(words: &[u64]) -> Option<bool> {
     let (&[channels, branch, passband, stopband, attenuation], written) = words.split_first_chunk::<
         5,
     >()?;
-    judge(written, TAP, |out: &mut [u8]| {
+    judge(written, TAP, |out| {
         pel_channelizer_prototype(
             channels,
             branch,
@@ -80,27 +76,27 @@ pub(crate) fn rrc(words: &[u64]) -> Option<bool> {
     judge(
         written,
         TAP,
-        |out: &mut [u8]| pel_rrc(float_of(rolloff), samples, span, out),
+        |out| pel_rrc(float_of(rolloff), samples, span, out),
     )
 }
 
 pub(crate) fn biquad_coefs(words: &[u64]) -> Option<bool> {
     let (&[response, centre, q, rate], written) = words.split_first_chunk::<4>()?;
-    judge(written, TAP, |out: &mut [u8]| {
+    judge(written, TAP, |out| {
         pel_biquad_coefs(response, float_of(centre), float_of(q), float_of(rate), out)
     })
 }
 
 pub(crate) fn butterworth_sos(words: &[u64]) -> Option<bool> {
     let (&[response, order, cutoff, rate], written) = words.split_first_chunk::<4>()?;
-    judge(written, TAP, |out: &mut [u8]| {
+    judge(written, TAP, |out| {
         pel_butterworth_sos(response, order, float_of(cutoff), float_of(rate), out)
     })
 }
 
 pub(crate) fn preemphasis_coefs(words: &[u64]) -> Option<bool> {
     let (&[tau, rate], written) = words.split_first_chunk::<2>()?;
-    judge(written, TAP, |out: &mut [u8]| {
+    judge(written, TAP, |out| {
         pel_preemphasis_coefs(float_of(tau), float_of(rate), out)
     })
 }

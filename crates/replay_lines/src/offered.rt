@@ -4,7 +4,7 @@ use crate::lent::{ELEMENTS, MARK};
 use arrayvec::ArrayVec;
 
 // The most bytes: as many elements of eight bytes as a line can have, and a part of one more.
-const BYTES: usize = 264;
+const BYTES: usize = (ELEMENTS + 1) * 8;
 
 // The buffer that is next among the words, with elements of width bytes, and the words after it. A part of an element
 // has no pattern: its bytes are marks.

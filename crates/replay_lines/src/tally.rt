@@ -2,8 +2,8 @@
 use crate::kind::{Kind, NAMES};
 use std::fmt;
 
-// More than the number of any kind.
-const KINDS: usize = 49;
+// The numbers of kinds are below it.
+const KINDS: usize = Kind::WindowGain as usize + 1;
 
 // How many of the differing lines are named: the counts tell of the others.
 const NAMED: u64 = 10;
