@@ -1,6 +1,4 @@
 // Functions of one number. A line has the bits of an argument and those of the answer.
-ghost use Rattle.std.specs.Prelude.{◌≡◌};
-
 use replay_lines::pattern::agrees;
 use wire::float_of;
 

@@ -7,13 +7,13 @@ use crate::kind::Kind;
 use arrayvec::ArrayVec;
 
 // The most words that a line has.
-pub const WORDS: usize = 96;
+const WORDS: usize = 96;
 
 // A space and 16 digits.
 const STEP: usize = 17;
 
 // The room for a line: at most three digits of a kind, the words and the newline.
-pub const TEXT: usize = 3 + WORDS * STEP + 1;
+pub(crate) const TEXT: usize = 3 + WORDS * STEP + 1;
 
 #[derive(Drop)]
 pub struct Line {

@@ -3,7 +3,7 @@ use crate::pattern::agrees;
 use verdict::Report;
 
 // The words of a report.
-pub const FIELDS: usize = 10;
+pub(crate) const FIELDS: usize = 10;
 
 // A field of an answer. A number is its word, and a float has it for its pattern.
 #[derive(Clone, Copy)]
@@ -45,7 +45,7 @@ fn have(fields: &[Field], words: &[u64]) -> bool {
 }
 
 // Is r the report that the words tell?
-pub fn is_told(r: Report, words: &[u64; FIELDS]) -> bool {
+pub(crate) fn is_told(r: Report, words: &[u64; FIELDS]) -> bool {
     have(&fields(r), words)
 }
 
