@@ -1,43 +1,27 @@
-// Kinds 11 to 15: Kaiser's shape, lengths and half samples of delay. A line has the arguments of an export and what it
-// answers: a report, and of beta its bits alone.
-use c_math::{lengths, shape};
-use replay_lines::line::WORDS;
-use replay_lines::pattern::float_at;
-use replay_lines::tally::Verdict;
-use replay_lines::{pattern, tally, told};
-use verdict::Report;
+// A Bessel sum, Kaiser's lengths and half samples of delay. A line has the arguments of an export and its report.
+use c_math::lengths::{pel_delay, pel_halfband_len, pel_kaiserord};
+use c_math::shape::pel_bessel_i0;
+use replay_lines::told;
+use wire::float_of;
 
-// How many words a kind has before its report.
-fn arguments(kind: usize) -> usize {
-    match kind {
-        13 | 14 => 3,
-        _ => 1,
-    }
+pub(crate) fn bessel_i0(words: &[u64]) -> Option<bool> {
+    let (&[x], report) = words.split_first_chunk::<1>()?;
+    told::judge(pel_bessel_i0(float_of(x)), report)
 }
 
-fn answer(kind: usize, words: &[u64; WORDS]) -> Report {
-    let x = float_at(words, 0);
-    let y = float_at(words, 1);
-    let z = float_at(words, 2);
-    match kind {
-        11 => shape::pel_bessel_i0(x),
-        13 => lengths::pel_kaiserord(x, y, z),
-        14 => lengths::pel_halfband_len(x, y, z),
-        _ => lengths::pel_delay(words[0]),
-    }
+pub(crate) fn kaiserord(words: &[u64]) -> Option<bool> {
+    let (&[ripple, transition, rate], report) = words.split_first_chunk::<3>()?;
+    let r = pel_kaiserord(float_of(ripple), float_of(transition), float_of(rate));
+    told::judge(r, report)
 }
 
-fn judge_beta(words: &[u64; WORDS], count: usize) -> Verdict {
-    if count != 2 {
-        return Verdict::Unreadable;
-    }
-    let beta = shape::pel_kaiser_beta(float_at(words, 0));
-    tally::judged(pattern::agrees(beta, words[1]))
+pub(crate) fn halfband_len(words: &[u64]) -> Option<bool> {
+    let (&[transition, attenuation, rate], report) = words.split_first_chunk::<3>()?;
+    let r = pel_halfband_len(float_of(transition), float_of(attenuation), float_of(rate));
+    told::judge(r, report)
 }
 
-pub(crate) fn judge(kind: usize, words: &[u64; WORDS], count: usize) -> Verdict {
-    if kind == 12 {
-        return judge_beta(words, count);
-    }
-    told::judge(answer(kind, words), words, arguments(kind), count)
+pub(crate) fn delay(words: &[u64]) -> Option<bool> {
+    let (&[taps], report) = words.split_first_chunk::<1>()?;
+    told::judge(pel_delay(taps), report)
 }

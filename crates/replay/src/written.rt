@@ -1,7 +1,4 @@
-// Kinds 17, 20, 22, 24, 28, 34 to 37 and 42 to 47: designs and windows that are written to a buffer, whose length in
-// bytes is the last argument.
-ghost use Rattle.std.specs.Prelude.{◌≤◌};
-
+// Designs and windows that are written to a buffer, whose length in bytes is the last argument.
 use c_lowpass::lowpass::pel_lowpass;
 use c_lowpass::prototype::pel_channelizer_prototype;
 use c_lowpass::spec::pel_spec_design;
@@ -10,115 +7,96 @@ use c_pulses::halfbands::pel_halfband;
 use c_pulses::pulse::pel_gaussian;
 use c_sections::cascade::pel_butterworth_sos;
 use c_sections::section::{pel_biquad_coefs, pel_preemphasis_coefs};
-use c_windows::samples::{
-    pel_blackman_harris_f32, pel_blackman_harris_q15, pel_hann_f32, pel_hann_q15, pel_kaiser_f32,
-    pel_kaiser_q15,
-};
-use replay_lines::line::WORDS;
-use replay_lines::pattern::float_at;
-use replay_lines::tally::Verdict;
-use replay_lines::{lent, written};
+use replay_lines::written::judge;
 use verdict::Report;
+use wire::float_of;
 
-// The index of the length in bytes.
-fn length_at(kind: usize) -> usize
-    ensures { result ≤ 5 }
-{
-    match kind {
-        20 | 28 => 5,
-        17 | 35 | 36 => 4,
-        24 | 34 => 3,
-        37 | 46 | 47 => 2,
-        _ => 1,
-    }
+// The bytes of an f64.
+const TAP: usize = 8;
+
+pub(crate) fn lowpass(words: &[u64]) -> Option<bool> {
+    let (&[cutoff, rate, window, beta], written) = words.split_first_chunk::<4>()?;
+    judge(written, TAP, |out| {
+        pel_lowpass(
+            float_of(cutoff),
+            float_of(rate),
+            window,
+            float_of(beta),
+            out,
+        )
+    })
 }
 
-// How many bytes an element has: f64s, f32s or Q15 numbers.
-fn width(kind: usize) -> usize {
-    match kind {
-        42 | 44 | 46 => 4,
-        43 | 45 | 47 => 2,
-        _ => 8,
-    }
+pub(crate) fn spec_design(words: &[u64]) -> Option<bool> {
+    let (&[cutoff, transition, attenuation, rate, cap], written) = words.split_first_chunk::<5>()?;
+    judge(written, TAP, |out| {
+        pel_spec_design(
+            float_of(cutoff),
+            float_of(transition),
+            float_of(attenuation),
+            float_of(rate),
+            cap,
+            out,
+        )
+    })
 }
 
-fn lowpass(words: &[u64; WORDS], out: &mut [u8]) -> Report {
-    let cutoff = float_at(words, 0);
-    let rate = float_at(words, 1);
-    let beta = float_at(words, 3);
-    pel_lowpass(cutoff, rate, words[2], beta, &mut *out)
+pub(crate) fn halfband(words: &[u64]) -> Option<bool> {
+    let (&[beta], written) = words.split_first_chunk::<1>()?;
+    judge(written, TAP, |out| pel_halfband(float_of(beta), out))
 }
 
-fn spec_design(words: &[u64; WORDS], out: &mut [u8]) -> Report {
-    let cutoff = float_at(words, 0);
-    let transition = float_at(words, 1);
-    let attenuation = float_at(words, 2);
-    let rate = float_at(words, 3);
-    pel_spec_design(cutoff, transition, attenuation, rate, words[4], &mut *out)
-}
-
-fn prototype(words: &[u64; WORDS], out: &mut [u8]) -> Report {
-    let passband = float_at(words, 2);
-    let stopband = float_at(words, 3);
-    let attenuation = float_at(words, 4);
-    pel_channelizer_prototype(
-        words[0],
-        words[1],
-        passband,
-        stopband,
-        attenuation,
-        &mut *out,
+pub(crate) fn gaussian(words: &[u64]) -> Option<bool> {
+    let (&[bt, samples, span], written) = words.split_first_chunk::<3>()?;
+    judge(
+        written,
+        TAP,
+        |out| pel_gaussian(float_of(bt), samples, span, out),
     )
 }
 
-fn design(kind: usize, words: &[u64; WORDS], out: &mut [u8]) -> Report {
-    match kind {
-        17 => lowpass(words, &mut *out),
-        20 => spec_design(words, &mut *out),
-        22 => pel_halfband(float_at(words, 0), &mut *out),
-        24 => pel_gaussian(float_at(words, 0), words[1], words[2], &mut *out),
-        28 => prototype(words, &mut *out),
-        _ => pel_rrc(float_at(words, 0), words[1], words[2], &mut *out),
-    }
+pub(crate) fn channelizer_prototype(words: &[u64]) -> Option<bool> {
+    let (&[channels, branch, passband, stopband, attenuation], written) = words.split_first_chunk::<
+        5,
+    >()?;
+    judge(written, TAP, |out| {
+        pel_channelizer_prototype(
+            channels,
+            branch,
+            float_of(passband),
+            float_of(stopband),
+            float_of(attenuation),
+            out,
+        )
+    })
 }
 
-fn section(kind: usize, words: &[u64; WORDS], out: &mut [u8]) -> Report {
-    let response = words[0];
-    let rate = float_at(words, 3);
-    match kind {
-        35 => {
-            let centre = float_at(words, 1);
-            let q = float_at(words, 2);
-            pel_biquad_coefs(response, centre, q, rate, &mut *out)
-        }
-        36 => pel_butterworth_sos(response, words[1], float_at(words, 2), rate, &mut *out),
-        _ => pel_preemphasis_coefs(float_at(words, 0), float_at(words, 1), &mut *out),
-    }
+pub(crate) fn rrc(words: &[u64]) -> Option<bool> {
+    let (&[rolloff, samples, span], written) = words.split_first_chunk::<3>()?;
+    judge(
+        written,
+        TAP,
+        |out| pel_rrc(float_of(rolloff), samples, span, out),
+    )
 }
 
-fn window(kind: usize, words: &[u64; WORDS], out: &mut [u8]) -> Report {
-    match kind {
-        42 => pel_hann_f32(words[0], &mut *out),
-        43 => pel_hann_q15(words[0], &mut *out),
-        44 => pel_blackman_harris_f32(words[0], &mut *out),
-        45 => pel_blackman_harris_q15(words[0], &mut *out),
-        46 => pel_kaiser_f32(float_at(words, 0), words[1], &mut *out),
-        _ => pel_kaiser_q15(float_at(words, 0), words[1], &mut *out),
-    }
+pub(crate) fn biquad_coefs(words: &[u64]) -> Option<bool> {
+    let (&[response, centre, q, rate], written) = words.split_first_chunk::<4>()?;
+    judge(written, TAP, |out| {
+        pel_biquad_coefs(response, float_of(centre), float_of(q), float_of(rate), out)
+    })
 }
 
-fn write(kind: usize, words: &[u64; WORDS], out: &mut [u8]) -> Report {
-    match kind {
-        35..=37 => section(kind, words, &mut *out),
-        42..=47 => window(kind, words, &mut *out),
-        _ => design(kind, words, &mut *out),
-    }
+pub(crate) fn butterworth_sos(words: &[u64]) -> Option<bool> {
+    let (&[response, order, cutoff, rate], written) = words.split_first_chunk::<4>()?;
+    judge(written, TAP, |out| {
+        pel_butterworth_sos(response, order, float_of(cutoff), float_of(rate), out)
+    })
 }
 
-pub(crate) fn judge(kind: usize, words: &[u64; WORDS], count: usize) -> Verdict {
-    let last = length_at(kind);
-    let bytes = lent::bytes(words[last]);
-    let mut out = lent::marked();
-    let r = write(kind, words, &mut out[..bytes]);
-    written::judge_elements(r, &out, words, last, count, width(kind))
+pub(crate) fn preemphasis_coefs(words: &[u64]) -> Option<bool> {
+    let (&[tau, rate], written) = words.split_first_chunk::<2>()?;
+    judge(written, TAP, |out| {
+        pel_preemphasis_coefs(float_of(tau), float_of(rate), out)
+    })
 }

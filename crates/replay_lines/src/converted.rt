@@ -1,67 +1,40 @@
 // A buffer of f64s that was converted. A line has the destination's and the source's length in bytes, the source's
 // whole elements, the report, and the patterns that were written.
-use crate::lent::{ELEMENTS, LENT, ROOM};
-use crate::line::WORDS;
-use crate::tally::Verdict;
-use crate::told::FIELDS;
-use crate::{lent, tally, told};
+use crate::lent::{MARK, ROOM};
+use crate::written::Answer;
+use crate::{lent, offered};
 use verdict::Report;
-
-// The index of the destination's length, and of the source's.
-pub const TO: usize = 0;
-
-pub const FROM: usize = 1;
-
-// The index of the source's first element.
-const FIRST: usize = 2;
-
-// The index of a report's index among its words.
-const INDEX: usize = 7;
 
 // The number of the refusal that stops a conversion.
 const STOPPED: u64 = 11;
 
-// Can a line have so many numbers? An accepted conversion has one for each element, one that was stopped those before
-// the index that it names, and another refusal none.
-fn can_have(numbers: usize, elements: usize, number: u64, index: u64) -> bool {
-    if number == 0 {
-        return numbers == elements;
+// Can so many elements have the answer? An accepted conversion has a number for each element, one that was stopped
+// those before the index that it names, and another refusal none.
+fn can_have(answer: &Answer, elements: usize) -> bool {
+    let numbers = answer.elements.len();
+    match answer.number() {
+        0 => numbers == elements,
+        STOPPED => numbers as u64 == answer.index(),
+        _ => numbers == 0,
     }
-    if number == STOPPED {
-        return numbers as u64 == index;
-    }
-    numbers == 0
 }
 
-// What a line comes to whose destination is out after the call, was answered with r, and has numbers of width bytes.
-// What was not converted has to be as it came.
-pub fn judge(
-    r: Report,
-    out: &[u8; ROOM],
-    words: &[u64; WORDS],
-    count: usize,
+// Whether convert answers and writes what the words tell; its numbers have width bytes.
+pub fn judge<F: FnOnce(&[u8], &mut [u8]) -> Report>(
+    words: &[u64],
     width: usize,
-) -> Verdict {
-    if words[TO] > LENT {
-        return Verdict::Unreadable;
+    convert: F,
+) -> Option<bool>
+    requires { F.IsAlwaysCallable convert }
+{
+    let (to, source) = words.split_first()?;
+    let bytes = lent::length(*to)?;
+    let (source, answer) = offered::buffer(source, 8)?;
+    let answer = Answer::read(answer)?;
+    if !can_have(&answer, source.len() / 8) {
+        return None;
     }
-    let elements = words[FROM] / 8;
-    if elements > ELEMENTS as u64 {
-        return Verdict::Unreadable;
-    }
-    let at = FIRST + elements as usize;
-    if count < at + FIELDS {
-        return Verdict::Unreadable;
-    }
-    let numbers = count - at - FIELDS;
-    if numbers > ELEMENTS {
-        return Verdict::Unreadable;
-    }
-    if !can_have(numbers, elements as usize, words[at], words[at + INDEX]) {
-        return Verdict::Unreadable;
-    }
-    if !told::is_told(r, words, at) {
-        return Verdict::Differs;
-    }
-    tally::judged(lent::holds(out, words, at + FIELDS, numbers, width))
+    let mut out = [MARK; ROOM];
+    let r = convert(source.as_slice(), &mut out[..bytes]);
+    Some(answer.is(r, &out, width))
 }

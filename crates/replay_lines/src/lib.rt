@@ -2,7 +2,8 @@
 #![tactic(auto)]
 
 pub mod converted;
-pub mod lent;
+pub mod kind;
+mod lent;
 pub mod line;
 pub mod offered;
 pub mod pattern;

@@ -1,46 +1,28 @@
-// The buffer that an export reads from. Its length in bytes stands among the words, and after that the patterns of its
-// whole elements.
-ghost use Rattle.std.specs.Prelude.{◌≡◌, ◌≤◌, length};
+// The buffer that an export reads from. A line has its length in bytes, and after that the patterns of its whole
+// elements.
+use crate::lent::{ELEMENTS, MARK};
+use arrayvec::ArrayVec;
 
-use crate::lent;
-use crate::lent::{ELEMENTS, ROOM};
-use crate::line::WORDS;
+// The most bytes: as many elements of eight bytes as a line can have, and a part of one more.
+const BYTES: usize = (ELEMENTS + 1) * 8;
 
-// The last index of a length behind which the most elements can stand.
-const LAST: usize = WORDS - ELEMENTS - 1;
-
-// Puts so many elements of width bytes to the start of the buffer, their patterns standing from index first.
-fn fill(words: &[u64; WORDS], first: usize, elements: usize, width: usize, out: &mut [u8])
-    requires first { first ≤ 64 }
-    requires elements { elements ≤ 32 }
-    requires width { width ≤ 8 }
-{
-    let mut from = 0;
-    for i in 0..elements {
-        wire::put(&mut *out, from, width, words[first + i]);
-        from += width;
+// The buffer that is next among the words, with elements of width bytes, and the words after it. A part of an element
+// has no pattern: its bytes are marks.
+pub fn buffer(words: &[u64], width: usize) -> Option<(ArrayVec<u8, BYTES>, &[u64])> {
+    let (length, rest) = words.split_first()?;
+    let length = *length as usize;
+    let (elements, rest) = rest.split_at_checked(length.checked_div(width)?)?;
+    if elements.len() > ELEMENTS {
+        return None;
     }
-}
-
-// The buffer whose length stands at index at, with elements of width bytes, and bytes that are marked after them. A
-// line that asks for more elements than it can have, or for wider ones than a word, is unreadable and gets none.
-pub fn buffer(words: &[u64; WORDS], at: usize, width: usize) -> [u8; ROOM]
-    ensures { 4104 ≡ length result }
-{
-    let mut out = lent::marked();
-    if at > LAST {
-        return out;
+    let mut bytes = ArrayVec::new();
+    for element in elements {
+        bytes
+            .try_extend_from_slice(element.to_le_bytes().get(..width)?)
+            .ok()?;
     }
-    if width == 0 {
-        return out;
+    for _ in 0..length % width {
+        bytes.try_push(MARK).ok()?;
     }
-    if width > 8 {
-        return out;
-    }
-    let elements = words[at] / width as u64;
-    if elements > ELEMENTS as u64 {
-        return out;
-    }
-    fill(words, at + 1, elements as usize, width, &mut out);
-    out
+    Some((bytes, rest))
 }

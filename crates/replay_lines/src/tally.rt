@@ -1,135 +1,72 @@
 // What the lines came to, counted and printed. The counts wrap, which no run lives to see.
-ghost use Rattle.std.specs.Prelude.{◌<◌};
+use crate::kind::{Kind, NAMES};
+use std::fmt;
 
-// A kind has at most three digits.
-const KINDS: usize = 1000;
-
-// The counts of a kind: its answers at index kind, and those of them that differ at KINDS + kind.
-pub const COUNTS: usize = 2 * KINDS;
+// The numbers of kinds are below it.
+const KINDS: usize = Kind::WindowGain as usize + 1;
 
 // How many of the differing lines are named: the counts tell of the others.
 const NAMED: u64 = 10;
 
-#[derive(Clone, Copy)]
-pub enum Verdict {
-    Same,
-    Differs,
-    Unreadable,
+// How many answers there were, and how many of them differ.
+#[derive(Clone, Copy, Default)]
+struct Count {
+    answers: u64,
+    differ: u64,
 }
 
-pub fn judged(same: bool) -> Verdict {
-    if same {
-        Verdict::Same
-    } else {
-        Verdict::Differs
+impl Count {
+    fn add(&mut self, is_same: bool) {
+        self.answers = self.answers.wrapping_add(1);
+        if !is_same {
+            self.differ = self.differ.wrapping_add(1);
+        }
     }
 }
 
-// How many lines there were, and what they came to.
-#[derive(Clone, Copy)]
+impl fmt::Display for Count {
+    fn fmt<W: fmt::Write>(&self, f: &mut fmt::Formatter<W>) -> fmt::Result {
+        let answers = self.answers;
+        let differ = self.differ;
+        write!(f, "{answers} answers, {differ} differ")
+    }
+}
+
+// How many lines there were, and what they came to, all and by the numbers of their kinds.
+#[derive(Default, Drop)]
 pub struct Tally {
-    pub lines: u64,
-    pub answers: u64,
-    pub differ: u64,
-    pub unreadable: u64,
+    lines: u64,
+    unreadable: u64,
+    all: Count,
+    kinds: [Count; KINDS],
 }
 
-pub fn begun() -> Tally {
-    Tally {
-        lines: 0,
-        answers: 0,
-        differ: 0,
-        unreadable: 0,
+impl Tally {
+    // One line more: its kind and whether the answers are the same, or that it cannot be read. What cannot be written
+    // is lost, and the run goes on: whoever holds its output to what is wanted finds it missing.
+    pub fn note(&mut self, rt: &impl Print, judged: Option<(Kind, bool)>) {
+        self.lines = self.lines.wrapping_add(1);
+        let line = self.lines;
+        let Some((kind, is_same)) = judged else {
+            let _ = println!(rt; "line {line} is unreadable");
+            self.unreadable = self.unreadable.wrapping_add(1);
+            return;
+        };
+        if !is_same && self.all.differ < NAMED {
+            let _ = println!(rt; "line {line} differs");
+        }
+        self.all.add(is_same);
+        self.kinds[kind as usize].add(is_same);
     }
-}
 
-// What cannot be written is lost, and the run goes on: whoever holds its output to what is wanted finds it missing.
-pub(crate) fn say(rt: &impl Print, text: &[u8]) {
-    let _ = rt.write_all(text);
-}
-
-fn say_number(rt: &impl Print, n: u64) {
-    let _ = rt.print(n);
-}
-
-// line 17 differs
-fn name_line(rt: &impl Print, number: u64, what: &[u8]) {
-    say(rt, b"line ");
-    say_number(rt, number);
-    say(rt, what);
-}
-
-fn answered(t: Tally, kind: usize, counts: &mut [u64; COUNTS]) -> Tally
-    requires { kind < 1000 }
-{
-    let mut q = t;
-    q.answers = t.answers.wrapping_add(1);
-    counts[kind] = counts[kind].wrapping_add(1);
-    q
-}
-
-fn differing(rt: &impl Print, t: Tally, kind: usize, counts: &mut [u64; COUNTS]) -> Tally
-    requires { kind < 1000 }
-{
-    if t.differ < NAMED {
-        name_line(rt, t.lines, b" differs\n");
+    // A line for each kind, and one for all of them.
+    pub fn print(&self, rt: &impl Print) {
+        for (kind, name) in &NAMES {
+            let count = self.kinds[*kind as usize];
+            let _ = println!(rt; "{name}: {count}");
+        }
+        let all = self.all;
+        let unreadable = self.unreadable;
+        let _ = println!(rt; "{all}, {unreadable} unreadable lines");
     }
-    let mut q = t;
-    q.differ = t.differ.wrapping_add(1);
-    counts[KINDS + kind] = counts[KINDS + kind].wrapping_add(1);
-    answered(q, kind, counts)
-}
-
-fn unreadable(rt: &impl Print, t: Tally) -> Tally {
-    name_line(rt, t.lines, b" is unreadable\n");
-    let mut q = t;
-    q.unreadable = t.unreadable.wrapping_add(1);
-    q
-}
-
-// One line more, and this is what it came to. A line whose kind has more than three digits is unreadable, whatever the
-// verdict.
-pub fn note(
-    rt: &impl Print,
-    t: Tally,
-    kind: usize,
-    verdict: Verdict,
-    counts: &mut [u64; COUNTS],
-) -> Tally {
-    let mut q = t;
-    q.lines = t.lines.wrapping_add(1);
-    if kind >= KINDS {
-        return unreadable(rt, q);
-    }
-    match verdict {
-        Verdict::Same => answered(q, kind, counts),
-        Verdict::Differs => differing(rt, q, kind, counts),
-        Verdict::Unreadable => unreadable(rt, q),
-    }
-}
-
-fn say_counts(rt: &impl Print, answers: u64, differ: u64) {
-    say_number(rt, answers);
-    say(rt, b" answers, ");
-    say_number(rt, differ);
-    say(rt, b" differ");
-}
-
-// delay: 40 answers, 0 differ. Nothing of a kind that has no counts.
-pub fn named(rt: &impl Print, name: &[u8], kind: usize, counts: &[u64; COUNTS]) {
-    if kind >= KINDS {
-        return;
-    }
-    say(rt, name);
-    say(rt, b": ");
-    say_counts(rt, counts[kind], counts[KINDS + kind]);
-    say(rt, b"\n");
-}
-
-// 1600 answers, 0 differ, 0 unreadable lines
-pub fn total(rt: &impl Print, t: Tally) {
-    say_counts(rt, t.answers, t.differ);
-    say(rt, b", ");
-    say_number(rt, t.unreadable);
-    say(rt, b" unreadable lines\n");
 }

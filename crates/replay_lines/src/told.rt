@@ -1,55 +1,63 @@
-// A report held to the ten words that a line has for it, which stand in the order of its fields.
-ghost use Rattle.std.specs.Prelude.{◌≤◌};
-
-use crate::line::WORDS;
+// An answer held to the words that a line has for it, which stand in the order of its fields.
 use crate::pattern::agrees;
-use crate::tally;
-use crate::tally::Verdict;
 use verdict::Report;
 
 // The words of a report.
-pub const FIELDS: usize = 10;
+pub(crate) const FIELDS: usize = 10;
 
-// The last index from which a whole report can stand.
-const LAST: usize = WORDS - FIELDS;
-
-// Does the report's field of this index have the word?
-fn has_field(r: Report, index: usize, word: u64) -> bool {
-    match index {
-        0 => r.number as u64 == word,
-        1 => r.carries as u64 == word,
-        2 => agrees(r.smallest, word),
-        3 => agrees(r.largest, word),
-        4 => agrees(r.offered, word),
-        5 => r.expected == word,
-        6 => r.given == word,
-        7 => r.index == word,
-        8 => r.count == word,
-        _ => agrees(r.value, word),
-    }
+// A field of an answer. A number is its word, and a float has it for its pattern.
+#[derive(Clone, Copy)]
+pub enum Field {
+    Number(u64),
+    Float(f64),
 }
 
-// Is r the report that stands from index at?
-fn stands(r: Report, words: &[u64; WORDS], at: usize) -> bool
-    requires { at ≤ 86 }
-{
-    for i in 0..FIELDS {
-        if !has_field(r, i, words[at + i]) {
-            return false;
+impl Field {
+    fn has(self, word: u64) -> bool {
+        match self {
+            Field::Number(n) => n == word,
+            Field::Float(x) => agrees(x, word),
         }
     }
-    true
 }
 
-// Does a whole report stand from index at, and is it r?
-pub fn is_told(r: Report, words: &[u64; WORDS], at: usize) -> bool {
-    at <= LAST && stands(r, words, at)
+fn fields(r: Report) -> [Field; FIELDS] {
+    [
+        Field::Number(r.number as u64),
+        Field::Number(r.carries as u64),
+        Field::Float(r.smallest),
+        Field::Float(r.largest),
+        Field::Float(r.offered),
+        Field::Number(r.expected),
+        Field::Number(r.given),
+        Field::Number(r.index),
+        Field::Number(r.count),
+        Field::Float(r.value),
+    ]
 }
 
-// What a line comes to that has its report last, from index at.
-pub fn judge(r: Report, words: &[u64; WORDS], at: usize, count: usize) -> Verdict {
-    if at > LAST || count != at + FIELDS {
-        return Verdict::Unreadable;
+// Has each field the word in its place?
+fn have(fields: &[Field], words: &[u64]) -> bool {
+    fields
+        .iter()
+        .zip(words)
+        .all(|(field, word)| field.has(*word))
+}
+
+// Is r the report that the words tell?
+pub(crate) fn is_told(r: Report, words: &[u64; FIELDS]) -> bool {
+    have(&fields(r), words)
+}
+
+// Whether these are the fields of the answer that ends a line.
+pub fn judge_fields(fields: &[Field], words: &[u64]) -> Option<bool> {
+    if fields.len() != words.len() {
+        return None;
     }
-    tally::judged(stands(r, words, at))
+    Some(have(fields, words))
+}
+
+// Whether r is the report that ends a line.
+pub fn judge(r: Report, words: &[u64]) -> Option<bool> {
+    judge_fields(&fields(r), words)
 }

@@ -1,70 +1,66 @@
 // What was written to a buffer. A line's last argument is the buffer's length in bytes, and where the answer is no
 // refusal the patterns of the buffer's elements follow the report.
-use crate::lent::{ELEMENTS, LENT, ROOM};
-use crate::line::WORDS;
-use crate::tally::Verdict;
+use crate::lent::{ELEMENTS, MARK, ROOM};
 use crate::told::FIELDS;
-use crate::{lent, tally, told};
+use crate::{lent, told};
 use verdict::Report;
 
-// The last index of a buffer's length behind which a report and the most elements can stand.
-const LAST: usize = WORDS - ELEMENTS - FIELDS - 1;
+// The indices of a report's number and of its index among its words.
+const NUMBER: usize = 0;
 
-// Can a line have so many elements of width bytes? What is accepted fills its buffer, and what is refused has none.
-fn can_have(elements: usize, width: usize, number: u64, bytes: u64) -> bool {
-    if number != 0 {
-        return elements == 0;
-    }
-    if width == 0 {
-        return false;
-    }
-    if bytes % width as u64 != 0 {
-        return false;
-    }
-    elements as u64 == bytes / width as u64
+const INDEX: usize = 7;
+
+// What a line tells of a buffer: the report, and the patterns of the elements that were written.
+#[derive(Clone, Copy)]
+pub(crate) struct Answer<'a> {
+    report: &'a [u64; FIELDS],
+    pub(crate) elements: &'a [u64],
 }
 
-// What a line comes to whose buffer has its length at index last, is out after the call, and was answered with r; its
-// elements have width bytes. A refusal has no elements, so that the whole buffer has to be as it came.
-pub fn judge_elements(
-    r: Report,
-    out: &[u8; ROOM],
-    words: &[u64; WORDS],
-    last: usize,
-    count: usize,
-    width: usize,
-) -> Verdict {
-    if last > LAST {
-        return Verdict::Unreadable;
+impl<'a> Answer<'a> {
+    pub(crate) fn read(words: &'a [u64]) -> Option<Answer<'a>> {
+        let (report, elements) = words.split_first_chunk()?;
+        if elements.len() > ELEMENTS {
+            return None;
+        }
+        Some(Answer { report, elements })
     }
-    let asked = words[last];
-    if asked > LENT {
-        return Verdict::Unreadable;
+
+    pub(crate) fn number(&self) -> u64 {
+        self.report[NUMBER]
     }
-    let at = last + 1;
-    if count < at + FIELDS {
-        return Verdict::Unreadable;
+
+    pub(crate) fn index(&self) -> u64 {
+        self.report[INDEX]
     }
-    let elements = count - at - FIELDS;
-    if elements > ELEMENTS {
-        return Verdict::Unreadable;
+
+    // Is it what came of a call that was answered with r, out being the buffer after it? Elements have width bytes.
+    // What was not written has to be as it came.
+    pub(crate) fn is(&self, r: Report, out: &[u8; ROOM], width: usize) -> bool {
+        told::is_told(r, self.report) && lent::holds(out, self.elements, width)
     }
-    if !can_have(elements, width, words[at], asked) {
-        return Verdict::Unreadable;
-    }
-    if !told::is_told(r, words, at) {
-        return Verdict::Differs;
-    }
-    tally::judged(lent::holds(out, words, at + FIELDS, elements, width))
 }
 
-// The same of a design, whose taps have eight bytes.
-pub fn judge(
-    r: Report,
-    out: &[u8; ROOM],
-    words: &[u64; WORDS],
-    last: usize,
-    count: usize,
-) -> Verdict {
-    judge_elements(r, out, words, last, count, 8)
+// Can a buffer of so many bytes have the answer? What is accepted fills it, and what is refused has no elements.
+fn can_have(answer: &Answer, bytes: usize, width: usize) -> bool {
+    if answer.number() == 0 {
+        answer.elements.len().checked_mul(width) == Some(bytes)
+    } else {
+        answer.elements.is_empty()
+    }
+}
+
+// Whether write answers and writes what the words from the buffer's length on tell; its elements have width bytes.
+pub fn judge<F: FnOnce(&mut [u8]) -> Report>(words: &[u64], width: usize, write: F) -> Option<bool>
+    requires { F.IsAlwaysCallable write }
+{
+    let (asked, answer) = words.split_first()?;
+    let bytes = lent::length(*asked)?;
+    let answer = Answer::read(answer)?;
+    if !can_have(&answer, bytes, width) {
+        return None;
+    }
+    let mut out = [MARK; ROOM];
+    let r = write(&mut out[..bytes]);
+    Some(answer.is(r, &out, width))
 }

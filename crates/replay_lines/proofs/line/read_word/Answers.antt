@@ -1,49 +1,64 @@
 -- `replay_lines::line::read_word` meets its contract: after i digits the rest of them make what all of them do, and the
 -- value is below 16 ^ i. Assumes nothing.
-use Rattle.std.proofs.Common.{◌≡◌, ◌+◌, refl, sym, ◌∙◌, arith, rules}
-use Rattle.replay_lines.specs.Digits.{told, room}
-use Rattle.replay_lines.specs.Words.{no_space, after_space, step, broken, done}
+use Rattle.std.proofs.Common.{◌≡◌, ℕ, suc, ◌+◌, ◌-◌, ◌*◌, ◌^◌, ◌<◌, List, length, take, drop, Option, Some, None, sym, ◌∙◌, ap, arith, pow-suc, add-one}
+use Rattle.std.specs.Prelude.{slice_index, option_and_then}
+use Rattle.std.proofs.Math.Nat.{pow-le-pow_right}
+use Rattle.std.proofs.lemmas.List.{get_or-take}
+use Rattle.std.proofs.lemmas.Grind.{common_steps, get_or_after_one}
+use Rattle.replay_lines.specs.Digits.{digit_of}
+use Rattle.replay_lines.specs.Words.{digits_at, word_at}
 use Rattle.replay_lines.proofs.line.read_word.Goals as goal
 
-pub returns-then-text-at-ne32 : goal.returns-then-text-at-ne32
-returns-then-text-at-ne32 c = no_space _ _ c.if-text-at-ne32.true
+-- a digit after i of them, which make v
+module _ (text : List ℕ) (i v : ℕ) (l : i < length (take 16 (drop 1 text))) where
+  below : i < 16
+  below = grind (arith, common_steps)
 
-pub loop-i-init : goal.loop-i-init
-loop-i-init c =
-    let a = c.args.at in
-    let e : a + 1 + 0 ≡ a + 1 = omega arith in
-    (search rules, search rules, rw e)
+  -- what 16 digits make fits a u64
+  room : (d : ℕ) → v < 16 ^ i → d < 16 → (v * 16 + d < 2 ^ 64) × (v * 16 + d < 16 ^ (i + 1))
+  room d h s =
+      let b = below in
+      (omega (arith, pow-le-pow_right {n = 16} (omega arith) {i = i} {j = 15} (omega arith)), rw (add-one i, pow-suc 16 i) (omega arith))
+
+  -- it is the text's next
+  step : (r : Option ℕ) → r ≡ digit_of (slice_index (take 16 (drop 1 text)) i)
+      → digits_at (16 - i) text (1 + i) v ≡ option_and_then (λ d. digits_at (16 - (i + 1)) text (1 + (i + 1)) (v * 16 + d)) r
+  unfolding digits_at
+  step r p =
+      let b = below in
+      let e : 16 - i ≡ suc (16 - (i + 1)) = omega arith in
+      let f : 1 + (i + 1) ≡ 1 + i + 1 = omega arith in
+      let g : r ≡ digit_of (slice_index text (1 + i)) = p ∙ ap digit_of (get_or-take 16 (drop 1 text) i 0 b ∙ get_or_after_one text i 0) in
+      rw (e, f, g)
 
 pub overflow_mul-value : goal.overflow_mul-value
 overflow_mul-value c =
-    let w = c.loop-i in
-    omega (arith, (room w.i w.value c.in-Value.d (omega arith) w.invariant.1 (told _ _ _ c.in-Value.ensures refl)).0)
+    let w = c.loop-digit in
+    omega (arith, (room c.args.text.now w.digit-index w.value c.loop-digit-test.true 0 w.invariant.0 (omega arith)).0)
 
 pub overflow_add-value : goal.overflow_add-value
 overflow_add-value c =
-    let w = c.loop-i in
-    omega (arith, (room w.i w.value c.in-Value.d (omega arith) w.invariant.1 (told _ _ _ c.in-Value.ensures refl)).0)
+    let w = c.loop-digit in
+    omega (arith, (room c.args.text.now w.digit-index w.value c.loop-digit-test.true c.in_ok-value.field-0 w.invariant.0 c.in_ok-value.ensures.small).0)
 
-pub returns-in-NoDigit : goal.returns-in-NoDigit
-returns-in-NoDigit c =
-    let a = c.args in
-    let w = c.loop-i in
-    after_space a.text.now a.at _ c.if-text-at-ne32.false
-    (sym w.invariant.2 ∙ broken a.text.now (a.at + 1) w.i w.value _ (omega arith) c.in-NoDigit.ensures refl)
+pub returns-in_err-value : goal.returns-in_err-value
+unfolding word_at
+returns-in_err-value c =
+    let w = c.loop-digit in
+    let on = step c.args.text.now w.digit-index w.value c.loop-digit-test.true None c.in_err-value.ensures.value in
+    rw (c.if-text-ne32.false) (c.from_residual.ensures ∙ sym on ∙ w.invariant.1)
 
-pub loop-i-preserved : goal.loop-i-preserved
-loop-i-preserved c =
-    let a = c.args in
-    let w = c.loop-i in
-    let d = c.in-Value.d in
-    let on = step a.text.now (a.at + 1) w.i w.value _ d (omega arith) c.in-Value.ensures refl in (
-      search rules,
-      (room w.i w.value d (omega arith) w.invariant.1 (told _ _ _ c.in-Value.ensures refl)).1,
-      sym on ∙ w.invariant.2,
-    )
+pub loop-digit-preserved : goal.loop-digit-preserved
+loop-digit-preserved c =
+    let w = c.loop-digit in
+    let d = c.in_ok-value in
+    let fits = room c.args.text.now w.digit-index w.value c.loop-digit-test.true d.field-0 w.invariant.0 d.ensures.small in
+    let on = step c.args.text.now w.digit-index w.value c.loop-digit-test.true (Some d.field-0) d.ensures.value in
+    (fits.1, sym on ∙ w.invariant.1)
 
 pub returns : goal.returns
+unfolding word_at digits_at
 returns c =
-    let a = c.args in
-    after_space a.text.now a.at _ c.if-text-at-ne32.false
-    (sym c.loop-i.invariant.2 ∙ done a.text.now (a.at + 1) c.loop-i.i c.loop-i.value c.loop-i-test.false)
+    let w = c.loop-digit in
+    let e : w.digit-index ≡ 16 = grind (arith, common_steps) in
+    rw (c.if-text-ne32.false, ← w.invariant.1, e)

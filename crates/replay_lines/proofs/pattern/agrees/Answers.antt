@@ -1,19 +1,11 @@
--- `replay_lines::pattern::agrees` meets its contract: x != x tells a NaN, and one comparison its patterns. Assumes
--- nothing.
-use Rattle.std.proofs.Common.{sym, ◌∙◌}
-use lib.Ieee.{binary64}
-use lib.Ieee.Bits.{nan_bits_above}
-use Rattle.laws.specs.Tests.{fails, ne_self}
+-- `replay_lines::pattern::agrees` meets its contract: a pattern is a NaN's where its float is one. Assumes nothing.
+use Rattle.std.proofs.Common.{sym, ◌∙◌, ap}
+use lib.Ieee.{binary64, is_nan}
+use lib.Ieee.Bits.{nan_bits_is}
 use Rattle.replay_lines.specs.Agrees.{agrees_of}
 use Rattle.replay_lines.proofs.pattern.agrees.Goals as goal
 
-pub float_to_bits-own : goal.float_to_bits-own
-float_to_bits-own c = fails (sym (ne_self c.args.x) ∙ c.if-x.false)
-
-pub returns-then-x : goal.returns-then-x
+pub returns-then-is_nan : goal.returns-then-is_nan
 unfolding agrees_of
-returns-then-x c = rw (sym (ne_self c.args.x) ∙ c.if-x.true) (sym (nan_bits_above binary64 c.args.b))
-
-pub returns-else-x : goal.returns-else-x
-unfolding agrees_of
-returns-else-x c = rw (sym (ne_self c.args.x) ∙ c.if-x.false)
+returns-then-is_nan c =
+    rw (sym c.is_nan.ensures.value ∙ c.if-is_nan.true) (c.is_nan-then-is_nan.ensures.value ∙ ap is_nan c.float_of.ensures ∙ sym (nan_bits_is binary64 c.args.b))
