@@ -5,7 +5,7 @@ use Rattle.c_formats.specs.ConversionLaws.{Reached}
 use Rattle.c_formats.proofs.convert.put_elements.Given as goal
 
 abbrev pub invariant-loop-i : goal.invariant-loop-i
-invariant-loop-i l = (l.i ≤ l.n) × Reached l.format l.src l.initial.out l.i l.out
+invariant-loop-i g l = (l.i ≤ l.n) × Reached g.E.Element.format l.src l.initial.out l.i l.out
 
 abbrev pub decreases-loop-i : goal.decreases-loop-i
-decreases-loop-i l = l.n - l.i
+decreases-loop-i g l = l.n - l.i
