@@ -1,8 +1,5 @@
 // A buffer of f64s converted to another format, from bytes to bytes.
 ghost use Rattle.std.specs.Prelude.{◌≡◌, ◌*◌, ◌/◌, ◌%◌, ◌<◌, length};
-ghost use Rattle.std.specs.Float.{binary64};
-ghost use Rattle.std.specs.Float.Ieee.{of_bits};
-ghost use Rattle.wire.specs.Bytes.{float_at};
 ghost use Rattle.c_formats.specs.Formats.{width_of};
 ghost use Rattle.c_formats.specs.Conversions.{lengths_of, ConvertsWhole, ConvertsBytes};
 
@@ -31,34 +28,17 @@ fn judge_lengths(from: u64, to: u64, wide: u64, group: u64) -> Result<(), Refusa
     Ok(())
 }
 
-// The pattern of the f64 that is element i. Its place is proved, so nothing is tested, and the eight loads become one.
-fn bits_at(src: &[u8], i: usize) -> u64
-    requires { i < length src.now / 8 }
-    ensures { of_bits binary64 result ≡ float_at src.now (8 * i) }
-{
-    let at = 8 * i;
-    wire::join(
-        src[at],
-        src[at + 1],
-        src[at + 2],
-        src[at + 3],
-        src[at + 4],
-        src[at + 5],
-        src[at + 6],
-        src[at + 7],
-    )
-}
-
 // The elements of a source of whole f64s into a destination for as many, up to the first that isn't taken.
 fn put_elements<E: Element>(src: &[u8], out: &mut [u8]) -> Result<(), Refusal>
     requires whole { length src.now % 8 ≡ 0 }
     requires room { length out.old ≡ width_of E.format * (length src.now / 8) }
     ensures { ConvertsWhole E.format src.now out.old result out.new }
 {
-    let n = src.len() / 8;
+    let words = src.as_chunks::<8>().0;
     let wide = E::width();
-    for i in 0..n {
-        let pattern = E::encode(i as u64, bits_at(src, i))?;
+    for i in 0..words.len() {
+        let bits = wire::number_in(&words[i]);
+        let pattern = E::encode(i as u64, bits)?;
         E::store(&mut *out, wide * i, pattern);
     }
     Ok(())
