@@ -18,6 +18,15 @@ KEYWORDS = set(
 COMPARED = ("<", "<=", ">", ">=", "==", "!=")
 
 
+def impl_name(told):
+    """The name of an impl's record, or, of a trait's, the name of the folder that its proofs stand in: the record, the
+    trait and what that is of, as in ReportFromRefusal."""
+    if "for" not in told:
+        return told[0]
+    at = told.index("for")
+    return "".join(word[0].upper() + word[1:] for word in told[at + 1 :] + told[:at] if word[0].isalnum())
+
+
 class Function:
     """A function with its body, or a constant with its value, as a range of words."""
 
@@ -89,14 +98,20 @@ class Source:
     # ---- functions, constants, records, enums
 
     def read_items(self):
-        words, k, method_of = self.words, 0, (None, 0)
+        words, k, method_of, own = self.words, 0, (None, 0, False, False), set()
         while k < len(words):
             end = k
             if words[k] == "impl":
-                method_of = (words[k + 1], self.closing(k + 2))
-                end = k + 2
+                end = words.index("{", k)
+                of_trait = "for" in words[k:end]
+                method_of = (impl_name(words[k + 1 : end]), self.closing(end), of_trait, words[k + 1] not in own)
+            elif words[k] == "trait":
+                # promises alone, and the code in its impls; nobody else can call those of a trait that isn't public
+                own.update([words[k + 1]] if words[k - 1] != "pub" else [])
+                end = self.closing(words.index("{", k))
             elif words[k] == "fn":
-                end = self.read_function(k, method_of[0] if k < method_of[1] else None)
+                record, last, *told = method_of
+                end = self.read_function(k, record, *told) if k < last else self.read_function(k, None, False, False)
             elif words[k] == "const":
                 end = words.index(";", k)
                 if words[k - 1] == "pub":
@@ -109,7 +124,7 @@ class Source:
                 end = self.read_type(k)
             k = end + 1
 
-    def read_function(self, k, record):
+    def read_function(self, k, record, of_trait, others):
         words, opens = self.words, self.words.index("(", k)
         closes = self.closing(opens)
         body = words.index("{", closes)
@@ -118,12 +133,13 @@ class Source:
         if record and words[opens + 1] == "self":
             params["self"] = (record, False)
         answer = self.joined(closes + 2, body) if words[closes + 1] == "->" else ""
-        public = words[k - 1] == "pub" or words[k - 3 : k] == ["pub", "extern", '"C"']
+        public = of_trait and others or words[k - 1] == "pub" or words[k - 3 : k] == ["pub", "extern", '"C"']
         end = self.closing(body)
         name = f"{record}::{words[k + 1]}" if record else words[k + 1]
         taken = tuple(kind for name, (kind, _) in params.items() if name != "self")
         self.types.functions[words[k + 1]].append((self, taken, answer))
-        promises = any(self.spans[k][0] < place < self.spans[body][0] for place in self.promised)
+        # a trait's function promises what the impl's ghost members say
+        promises = of_trait or any(self.spans[k][0] < place < self.spans[body][0] for place in self.promised)
         self.functions.append(Function(name, "fn", public, promises, params, body, end))
         return end
 
@@ -132,7 +148,7 @@ class Source:
         for a, b in self.parts(k + 2):
             a += words[a] == "pub"
             if words[k] == "enum":
-                carried = [self.joined(*part) for part in self.parts(a + 1)] if b > a + 1 else []
+                carried = [self.joined(*part) for part in self.parts(a + 1)] if words[a + 1] == "(" else []
                 self.types.carried[f"{name}::{words[a]}"] = carried
             elif words[k + 2] == "{":
                 self.types.fields[name][words[a]] = self.joined(a + 2, b)
