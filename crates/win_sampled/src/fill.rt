@@ -52,12 +52,12 @@ fn fill<S: Sample>(shape: Shape, symmetry: Symmetry, out: &mut [S]) -> Result<()
 pub fn fill_f32(shape: Shape, symmetry: Symmetry, out: &mut [f32]) -> Result<(), Refusal>
     ensures { FillsWindow single_of shape symmetry out.old result out.new }
 {
-    fill(shape, symmetry, &mut *out)
+    fill::<f32>(shape, symmetry, &mut *out)
 }
 
 // The same as Q15 numbers: 1 is held to 32767.
 pub fn fill_q15(shape: Shape, symmetry: Symmetry, out: &mut [i16]) -> Result<(), Refusal>
     ensures { FillsWindow q15_of shape symmetry out.old result out.new }
 {
-    fill(shape, symmetry, &mut *out)
+    fill::<i16>(shape, symmetry, &mut *out)
 }
