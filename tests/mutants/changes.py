@@ -86,7 +86,7 @@ class Walk:
         if word in "{};" and after != "}":
             self.drop_statement(k + 1)
         block = source.outside(k, last, "{")[0] if word in ("for", "match", "if") else None
-        if word == "let":
+        if word == "let" and before != "if":
             name = k + 1 + (after == "mut")
             equals, end = source.outside(k, last, "=")[0], source.outside(k, last, ";")[0]
             kind = source.joined(name + 2, equals) if words[name + 1] == ":" else self.type_of(equals + 1, end)

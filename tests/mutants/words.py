@@ -98,14 +98,20 @@ class Source:
     # ---- functions, constants, records, enums
 
     def read_items(self):
-        words, k, method_of = self.words, 0, (None, 0, False)
+        words, k, method_of, own = self.words, 0, (None, 0, False, False), set()
         while k < len(words):
             end = k
             if words[k] == "impl":
                 end = words.index("{", k)
-                method_of = (impl_name(words[k + 1 : end]), self.closing(end), "for" in words[k:end])
+                of_trait = "for" in words[k:end]
+                method_of = (impl_name(words[k + 1 : end]), self.closing(end), of_trait, words[k + 1] not in own)
+            elif words[k] == "trait":
+                # promises alone, and the code in its impls; nobody else can call those of a trait that isn't public
+                own.update([words[k + 1]] if words[k - 1] != "pub" else [])
+                end = self.closing(words.index("{", k))
             elif words[k] == "fn":
-                end = self.read_function(k, *(method_of[::2] if k < method_of[1] else (None, False)))
+                record, last, *told = method_of
+                end = self.read_function(k, record, *told) if k < last else self.read_function(k, None, False, False)
             elif words[k] == "const":
                 end = words.index(";", k)
                 if words[k - 1] == "pub":
@@ -118,7 +124,7 @@ class Source:
                 end = self.read_type(k)
             k = end + 1
 
-    def read_function(self, k, record, of_trait):
+    def read_function(self, k, record, of_trait, others):
         words, opens = self.words, self.words.index("(", k)
         closes = self.closing(opens)
         body = words.index("{", closes)
@@ -127,7 +133,7 @@ class Source:
         if record and words[opens + 1] == "self":
             params["self"] = (record, False)
         answer = self.joined(closes + 2, body) if words[closes + 1] == "->" else ""
-        public = of_trait or words[k - 1] == "pub" or words[k - 3 : k] == ["pub", "extern", '"C"']
+        public = of_trait and others or words[k - 1] == "pub" or words[k - 3 : k] == ["pub", "extern", '"C"']
         end = self.closing(body)
         name = f"{record}::{words[k + 1]}" if record else words[k + 1]
         taken = tuple(kind for name, (kind, _) in params.items() if name != "self")

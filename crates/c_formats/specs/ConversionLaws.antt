@@ -13,7 +13,7 @@ use Rattle.wire.specs.WrittenPrefix as Prefix
 use Rattle.verdict.specs.declared.Refusal.{Refusal}
 use Rattle.verdict.specs.declared.Refusal.TheVariants.{Length}
 use Rattle.verdict.specs.declared.Report.{Report}
-use Rattle.c_formats.specs.declared.element.Format.{Format}
+use Rattle.c_formats.specs.Format.{Format}
 use Rattle.verdict.specs.Reports.{done_report}
 use Rattle.verdict.specs.Converts.{taken_of, groups_of, then_of, left_of}
 use Rattle.verdict.specs.ConvertsLaws.{only_done, right_count, Taken, none_yet, Ended, one_taken, stopped, all_taken}

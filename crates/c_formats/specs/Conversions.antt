@@ -8,7 +8,7 @@ use Rattle.verdict.specs.declared.Refusal.TheVariants.{Length}
 use Rattle.verdict.specs.declared.Report.{Report}
 use Rattle.verdict.specs.Reports.{done_report}
 use Rattle.verdict.specs.Converts.{taken_of, groups_of, then_of, left_of}
-use Rattle.c_formats.specs.declared.element.Format.{Format}
+use Rattle.c_formats.specs.Format.{Format}
 use Rattle.c_formats.specs.Formats.{width_of, takes_of, outside_of, bytes_in}
 use Rattle.verdict.specs.declared.Refusal.{Refusal}
 

@@ -7,7 +7,7 @@ use Rattle.wire.specs.Bytes.{twos_of}
 use Rattle.verdict.specs.declared.Refusal.{Refusal}
 use Rattle.fmt_q15.specs.Q15 as Q15
 use Rattle.fmt_q14.specs.Q14 as Q14
-use Rattle.c_formats.specs.declared.element.Format.{Format}
+use Rattle.c_formats.specs.Format.{Format}
 use Rattle.c_formats.specs.Formats.{width_of, takes_of, pattern_of, outside_of, encoded_of, coded_of}
 
 -- an element has a byte at least

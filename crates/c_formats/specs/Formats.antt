@@ -7,7 +7,7 @@ use Rattle.verdict.specs.declared.Refusal.{Refusal}
 use Rattle.fmt_q15.specs.Q15 as Q15
 use Rattle.fmt_q14.specs.Q14 as Q14
 use Rattle.fmt_f32.specs.Single.{single_of, any_outside}
-use Rattle.c_formats.specs.declared.element.Format.{Format}
+use Rattle.c_formats.specs.Format.{Format}
 
 -- bytes an element
 unfoldable pub width_of : Format → ℕ

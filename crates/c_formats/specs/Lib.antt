@@ -1,3 +1,4 @@
+pub mod Format
 pub mod Formats
 pub mod FormatLaws
 pub mod Conversions

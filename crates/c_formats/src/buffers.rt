@@ -1,9 +1,9 @@
 // Buffers of f64s converted to Q15, Q14 and f32, as exports.
-ghost use Rattle.c_formats.specs.declared.element.Format.TheVariants.{Q15, Q14, Single};
+ghost use Rattle.c_formats.specs.Format.{Q15, Q14, Single};
 ghost use Rattle.c_formats.specs.Conversions.{ConvertsBytes};
 
 use super::convert::convert;
-use super::element::Format;
+use super::element;
 use verdict::Report;
 
 // Converts f64s, eight bytes each, to Q15 numbers, two bytes each, the lowest byte first, and tells how many as the
@@ -14,7 +14,7 @@ use verdict::Report;
 pub fn pel_to_q15(src: &[u8], out: &mut [u8]) -> Report
     ensures { ConvertsBytes Q15 1 src.now out.old result out.new }
 {
-    convert(Format::Q15, 1, src, &mut *out)
+    convert::<element::Q15>(1, src, &mut *out)
 }
 
 // Converts sections, five f64s each, to Q14 numbers, two bytes each. Refused as pel_to_q15, but for 8 before the
@@ -23,7 +23,7 @@ pub fn pel_to_q15(src: &[u8], out: &mut [u8]) -> Report
 pub fn pel_to_q14(src: &[u8], out: &mut [u8]) -> Report
     ensures { ConvertsBytes Q14 5 src.now out.old result out.new }
 {
-    convert(Format::Q14, 5, src, &mut *out)
+    convert::<element::Q14>(5, src, &mut *out)
 }
 
 // Converts f64s to f32s, four bytes each: the nearest, ties to even; an infinity where it is too large, 7FC00000 for a
@@ -31,12 +31,12 @@ pub fn pel_to_q14(src: &[u8], out: &mut [u8]) -> Report
 pub fn pel_to_f32(src: &[u8], out: &mut [u8]) -> Report
     ensures { ConvertsBytes Single 1 src.now out.old result out.new }
 {
-    convert(Format::Single, 1, src, &mut *out)
+    convert::<element::Single>(1, src, &mut *out)
 }
 
 // The same of sections, five f64s each: refused with 8 as pel_to_q14.
 pub fn pel_to_f32_sos(src: &[u8], out: &mut [u8]) -> Report
     ensures { ConvertsBytes Single 5 src.now out.old result out.new }
 {
-    convert(Format::Single, 5, src, &mut *out)
+    convert::<element::Single>(5, src, &mut *out)
 }

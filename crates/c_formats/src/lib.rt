@@ -4,3 +4,4 @@
 pub mod buffers;
 mod convert;
 mod element;
+mod store;

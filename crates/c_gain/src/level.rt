@@ -67,11 +67,10 @@ fn gain_in(src: &[u8]) -> Gain
         squares = squares + v * v + w * w + x * x + y * y;
         i += 4;
     }
-    while i < n {
-        let v = wire::wide_of(pattern_at(src, 4 * i));
+    for k in i..n {
+        let v = wire::wide_of(pattern_at(src, 4 * k));
         sum = sum + v;
         squares = squares + v * v;
-        i += 1;
     }
     gain_of(n as u64, sum, squares)
 }

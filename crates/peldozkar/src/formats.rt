@@ -1,5 +1,5 @@
 // Buffers of f64s converted to Q15, Q14 and f32.
-ghost use Rattle.c_formats.specs.declared.element.Format.TheVariants.{Q15, Q14, Single};
+ghost use Rattle.c_formats.specs.Format.{Q15, Q14, Single};
 ghost use Rattle.c_formats.specs.Conversions.{ConvertsBytes};
 
 use verdict::Report;

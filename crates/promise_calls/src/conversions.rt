@@ -1,5 +1,5 @@
 // The conversions: demand 1 of each, an 11's prefix and rest included.
-ghost use Rattle.c_formats.specs.declared.element.Format.TheVariants.{Q15, Q14, Single};
+ghost use Rattle.c_formats.specs.Format.{Q15, Q14, Single};
 ghost use Rattle.promise_refusals.specs.Demand.{ConvertedOrKept};
 
 use verdict::Report;

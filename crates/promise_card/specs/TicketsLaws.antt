@@ -22,7 +22,7 @@ use Rattle.ticket_card.specs.Card.{read_of}
 use Rattle.c_card.specs.Cards.{told_of}
 use Rattle.c_card.specs.Tickets.{judged_for, bytes_for}
 use Rattle.c_card.specs.declared.reading.TicketRead.{TicketRead}
-use Rattle.c_formats.specs.declared.element.Format.TheVariants.{Q15}
+use Rattle.c_formats.specs.Format.{Q15}
 use Rattle.c_formats.specs.Conversions.{ConvertsBytes}
 use Rattle.promise_refusals.specs.Demand.{listed}
 use Rattle.promise_refusals.specs.Listed.{Listed}

@@ -25,7 +25,7 @@ use Rattle.win_cosines.specs.Load.{cosines_of}
 use Rattle.c_cosines.specs.Loads.{numbers_in, load_bytes, zeros, answer_of}
 use Rattle.c_cosines.specs.LoadsLaws.{bytes_these}
 use Rattle.c_cosines.specs.declared.load.Loaded.{Loaded}
-use Rattle.c_formats.specs.declared.element.Format.{Format}
+use Rattle.c_formats.specs.Format.{Format}
 use Rattle.c_formats.specs.Formats.{width_of, takes_of, pattern_of, outside_of, bytes_in}
 use Rattle.c_formats.specs.Conversions.{floats, lengths_of, stored_of, ConvertsBytes}
 use Rattle.c_formats.specs.ConversionLaws.{right_lengths, count}

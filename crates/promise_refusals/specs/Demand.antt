@@ -12,7 +12,7 @@ use Rattle.wire.specs.Bytes.{float_at}
 use Rattle.win_cosines.specs.Load.{cosines_of}
 use Rattle.c_cosines.specs.Loads.{numbers_in, load_bytes, zeros}
 use Rattle.c_cosines.specs.declared.load.Loaded.{Loaded}
-use Rattle.c_formats.specs.declared.element.Format.{Format}
+use Rattle.c_formats.specs.Format.{Format}
 use Rattle.c_formats.specs.Formats.{width_of, takes_of, outside_of, bytes_in}
 use Rattle.c_formats.specs.Conversions.{floats, lengths_of}
 use Rattle.promise_refusals.specs.Verdicts.{of_loading}

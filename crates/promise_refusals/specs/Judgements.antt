@@ -41,7 +41,7 @@ use Rattle.iir_butterworth.specs.Butterworth.{response_taken, order_taken, secti
 use Rattle.win_cosines.specs.Load.{numbers_taken, load_of}
 use Rattle.win_cosines.specs.Load as Load
 use Rattle.c_sections.specs.Numbers.{numbers_of}
-use Rattle.c_formats.specs.declared.element.Format.{Format}
+use Rattle.c_formats.specs.Format.{Format}
 use Rattle.c_formats.specs.Formats.{takes_of, outside_of}
 use Rattle.c_formats.specs.Conversions.{lengths_of}
 use Rattle.promise_refusals.specs.Demand.{listed}

@@ -21,7 +21,7 @@ use Rattle.verdict.specs.ConvertsLaws.{same_count}
 use Rattle.verdict.specs.Outcome.{Outcome}
 use Rattle.fmt_q15.specs.Q15.{takes, q15_of}
 use Rattle.fir_spec.specs.declared.DesignSpec.{DesignSpec}
-use Rattle.c_formats.specs.declared.element.Format.TheVariants.{Q15}
+use Rattle.c_formats.specs.Format.{Q15}
 use Rattle.c_formats.specs.Formats.{width_of, takes_of, pattern_of, outside_of}
 use Rattle.c_formats.specs.Conversions.{floats, lengths_of, ConvertsBytes}
 use Rattle.c_formats.specs.ConversionLaws.{whole_elements}

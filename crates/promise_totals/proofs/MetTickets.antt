@@ -39,7 +39,7 @@ use Rattle.fir_spec.specs.Spec.{spec_order_of, spec_design_of}
 use Rattle.fir_halfband.specs.Halfband as Halfband
 use Rattle.fir_gaussian.specs.Gaussian as Gaussian
 use Rattle.fir_channelizer.specs.Channelizer as Channelizer
-use Rattle.c_formats.specs.declared.element.Format.TheVariants.{Q15}
+use Rattle.c_formats.specs.Format.{Q15}
 use Rattle.c_formats.specs.Conversions.{ConvertsBytes}
 use Rattle.ticket_codes.specs.Codes.{window_of}
 use Rattle.c_lowpass.specs.Lowpass.{lowpass_bytes}

@@ -19,7 +19,7 @@ use Rattle.verdict.specs.ConvertsLaws.{right_count}
 use Rattle.fmt_q15.specs.Q15 as Q15
 use Rattle.fmt_q14.specs.Q14 as Q14
 use Rattle.fmt_f32.specs.Single.{single_of, any_outside}
-use Rattle.c_formats.specs.declared.element.Format.{Format}
+use Rattle.c_formats.specs.Format.{Format}
 use Rattle.c_formats.specs.Formats.{width_of, takes_of, pattern_of, outside_of, bytes_in}
 use Rattle.c_formats.specs.FormatLaws.{wide}
 use Rattle.c_formats.specs.Conversions.{floats, lengths_of, stored_of, ConvertsBytes}

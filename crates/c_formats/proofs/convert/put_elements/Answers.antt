@@ -1,57 +1,68 @@
 -- `c_formats::convert::put_elements` meets its contract. The loop's invariant: the elements so far are taken, and their
 -- bytes stand at the front. Assumes nothing.
+use Rattle.std.specs.Prelude.{Err, Result}
+use Rattle.std.specs.Simd.{first_chunks}
+use Rattle.std.proofs.Common.{rules}
 use mathlib.Core.Path.{◌≡◌, sym, ap, ◌∙◌}
-use Prim.Native.Nat.{ℕ, ◌*◌}
+use mathlib.Core.List.{List}
+use Prim.Native.Nat.{ℕ, ◌*◌, ◌/◌, ◌<◌}
 use native.Mathlib.Nat.{mul-le-mul_left, mul-suc}
 use native.Mathlib.Omega.{arith}
-use lib.ListN.{length}
-use Rattle.wire.specs.Bytes.{float_at, put_of}
+use lib.ListN.{length, get_or}
+use lib.Ieee.{binary64, of_bits}
+use Rattle.wire.specs.Bytes.{float_at, number_of, put_of}
+use Rattle.wire.specs.Read.{chunk_in}
+use Rattle.verdict.specs.declared.Refusal.{Refusal}
+use Rattle.c_formats.specs.Format.{Format}
 use Rattle.c_formats.specs.Formats.{width_of, encoded_of}
 use Rattle.c_formats.specs.ConversionLaws.{at_first, at_end, one_more, one_refused}
 use Rattle.c_formats.proofs.convert.put_elements.Goals as goal
 
+-- element i, from the chunk that holds it
+read : (f : Format) (s none : List ℕ) {words : List (List ℕ)} {i bits : ℕ} {r : Result ℕ Refusal} → words ≡ first_chunks 8 (length s / 8) s → bits ≡ number_of (get_or words i none) → i < length s / 8 → r ≡ encoded_of f i (of_bits binary64 bits) → r ≡ encoded_of f i (float_at s (8 * i))
+read f s none {i = i} front chunk within told =
+    let at = ap (λ (l : List (List ℕ)). get_or l i none) front ∙ chunk_in 8 (length s / 8) i s none within in
+    told ∙ ap (λ (b : ℕ). encoded_of f i (of_bits binary64 b)) (chunk ∙ ap number_of at)
+
 pub loop-i-init : goal.loop-i-init
-loop-i-init c = let a = c.args in (omega arith, at_first a.format a.src.now a.out.now)
+loop-i-init g c = let a = c.args in (omega arith, at_first g.E.Element.format a.src.now a.out.now)
 
 pub overflow_mul-wide : goal.overflow_mul-wide
-overflow_mul-wide c =
+overflow_mul-wide g c =
     let a = c.args in
     let i = c.loop-i.i in
     let place = ap (λ (w : ℕ). w * i) c.width-wide.ensures in
-    let most = mul-le-mul_left (width_of a.format) c.loop-i.invariant.0 in
+    let most = mul-le-mul_left (width_of g.E.Element.format) c.loop-i.invariant.0 in
     omega (arith, place, most)
 
 pub store-requires : goal.store-requires
-store-requires c =
+store-requires g c =
     let same_as : length c.loop-i.out ≡ length c.args.out.now = c.loop-i.invariant.1.prefix.size in
-    let w = width_of c.args.format in
+    let w = width_of g.E.Element.format in
     let i = c.loop-i.i in
     let place = ap (λ (w : ℕ). w * i) c.width-wide.ensures in
-    let most = mul-le-mul_left w c.loop-i-test.true in
+    let within : c.loop-i.i < length c.args.src.now / 8 = omega (arith, c.loop-i-test.true, c.as_chunks.ensures.front_len) in
+    let most = mul-le-mul_left w within in
     omega (arith, place, most, mul-suc w i, same_as, c.requires.room)
 
-pub shape_of-out-in-Err : goal.shape_of-out-in-Err
-shape_of-out-in-Err c =
-    let same_as : length c.loop-i.out ≡ length c.args.out.now = c.loop-i.invariant.1.prefix.size in
-    same_as
-
-pub returns-in-Err : goal.returns-in-Err
-returns-in-Err c =
-    let outcome : (let a = c.args in
-    c.encode-e.result ≡ encoded_of a.format c.loop-i.i (float_at a.src.now (8 * c.loop-i.i))) = c.encode-e.ensures ∙ ap (encoded_of c.args.format c.loop-i.i) (c.float_of.ensures ∙ c.bits_at.ensures) in
-    one_refused c.loop-i.invariant.1 c.requires.room c.loop-i-test.true (sym outcome ∙ c.in-Err.is)
+pub returns-in_err-pattern : goal.returns-in_err-pattern
+returns-in_err-pattern g c =
+    let refused : c.from_residual.result ≡ Err c.in_err-pattern.field-0.0 = search rules in
+    let within : c.loop-i.i < length c.args.src.now / 8 = omega (arith, c.loop-i-test.true, c.as_chunks.ensures.front_len) in
+    let outcome = read g.E.Element.format c.args.src.now _ c.as_chunks.ensures.front c.number_in-bits.ensures within c.encode.ensures in
+    rw refused (one_refused c.loop-i.invariant.1 c.requires.room within (sym outcome ∙ c.in_err-pattern.was))
 
 pub loop-i-preserved : goal.loop-i-preserved
-loop-i-preserved c =
-    let outcome : (let a = c.args in
-    c.encode-e.result ≡ encoded_of a.format c.loop-i.i (float_at a.src.now (8 * c.loop-i.i))) = c.encode-e.ensures ∙ ap (encoded_of c.args.format c.loop-i.i) (c.float_of.ensures ∙ c.bits_at.ensures) in
-    let stored = c.store.ensures ∙ ap (λ (w : ℕ). put_of (width_of c.args.format) c.loop-i.out (w * c.loop-i.i) c.in-Ok.pattern) c.width-wide.ensures in
-    (omega arith, one_more c.loop-i.invariant.1 c.requires.room c.loop-i-test.true (sym outcome ∙ c.in-Ok.is) stored)
+loop-i-preserved g c =
+    let within : c.loop-i.i < length c.args.src.now / 8 = omega (arith, c.loop-i-test.true, c.as_chunks.ensures.front_len) in
+    let outcome = read g.E.Element.format c.args.src.now _ c.as_chunks.ensures.front c.number_in-bits.ensures within c.encode.ensures in
+    let stored = c.store.ensures ∙ ap (λ (w : ℕ). put_of (width_of g.E.Element.format) c.loop-i.out (w * c.loop-i.i) c.in_ok-pattern.pattern) c.width-wide.ensures in
+    (omega arith, one_more c.loop-i.invariant.1 c.requires.room within (sym outcome ∙ c.in_ok-pattern.was) stored)
 
 pub shape_of-out : goal.shape_of-out
-shape_of-out c =
+shape_of-out g c =
     let same_as : length c.loop-i.out ≡ length c.args.out.now = c.loop-i.invariant.1.prefix.size in
     same_as
 
 pub returns : goal.returns
-returns c = at_end c.loop-i.invariant.1 (omega arith)
+returns g c = at_end c.loop-i.invariant.1 (omega (arith, c.as_chunks.ensures.front_len))

@@ -61,11 +61,11 @@ loop-i-preserved c =
     let three = more two {k = 4 * i + 8} (omega arith) (omega arith) (c.wide_of-x.ensures ∙ c.pattern_at-c.ensures) in
     rw four (more three {k = 4 * i + 12} (omega arith) (omega arith) (c.wide_of-y.ensures ∙ c.pattern_at-d.ensures))
 
-pub loop-i-2-init : goal.loop-i-2-init
-loop-i-2-init c = c.loop-i.invariant
+pub loop-k-init : goal.loop-k-init
+loop-k-init c = c.loop-i.invariant
 
-pub loop-i-2-preserved : goal.loop-i-2-preserved
-loop-i-2-preserved c = more c.loop-i-2.invariant refl (omega arith) (c.wide_of-v-in-loop-i-2.ensures ∙ c.pattern_at.ensures)
+pub loop-k-preserved : goal.loop-k-preserved
+loop-k-preserved c = more c.loop-k.invariant refl (omega arith) (c.wide_of-v-in-loop-k.ensures ∙ c.pattern_at.ensures)
 
 pub returns : goal.returns
-returns c = c.gain_of.ensures ∙ all c.loop-i-2.invariant (omega arith)
+returns c = c.gain_of.ensures ∙ all c.loop-k.invariant (omega arith)

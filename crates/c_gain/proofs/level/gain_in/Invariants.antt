@@ -28,8 +28,8 @@ invariant-loop-i l = Summed l.src l.i l.sum l.squares
 abbrev pub decreases-loop-i : goal.decreases-loop-i
 decreases-loop-i l = l.n - l.i
 
-abbrev pub invariant-loop-i-2 : goal.invariant-loop-i-2
-invariant-loop-i-2 l = Summed l.src l.i l.sum l.squares
+abbrev pub invariant-loop-k : goal.invariant-loop-k
+invariant-loop-k l = Summed l.src l.k l.sum l.squares
 
-abbrev pub decreases-loop-i-2 : goal.decreases-loop-i-2
-decreases-loop-i-2 l = l.n - l.i
+abbrev pub decreases-loop-k : goal.decreases-loop-k
+decreases-loop-k l = l.n - l.k

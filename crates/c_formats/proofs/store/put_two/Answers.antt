@@ -1,11 +1,11 @@
--- `c_formats::convert::put_two` meets its contract: the stores are the definition's, byte by byte. Assumes nothing.
+-- `c_formats::store::put_two` meets its contract: the stores are the definition's, byte by byte. Assumes nothing.
 use mathlib.Core.Path.{◌≡◌, sym}
 use Prim.Native.Nat.{suc, ◌+◌}
 use native.Mathlib.Omega.{arith}
 use lib.ListN.{length-set}
 use Rattle.wire.specs.Bytes.{bytes_of}
 use Rattle.wire.specs.Laws.{put_fits}
-use Rattle.c_formats.proofs.convert.put_two.Goals as goal
+use Rattle.c_formats.proofs.store.put_two.Goals as goal
 
 pub bounds-out-at-2 : goal.bounds-out-at-2
 bounds-out-at-2 c = rw length-set (omega arith)
