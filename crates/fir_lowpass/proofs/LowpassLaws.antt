@@ -1,6 +1,6 @@
 -- Each outcome of the judgement of a low-pass, from what the tests said. Assumes nothing.
 use Rattle.std.specs.Prelude.{◌≡◌, refl, Bool, true, false, cond, List, ℕ, ◌≤◌, ◌<◌, ltb, leb, length, Float, Err, Ok, Result}
-use Rattle.std.proofs.Common.{sym, ◌∙◌, subst, arith, ltb-true, leb-true}
+use Rattle.std.proofs.Common.{sym, ◌∙◌, subst, ltb-true, leb-true}
 use Rattle.std.proofs.Math.Path.{ap}
 use Rattle.laws.specs.Binary64.{◌⊘◌, whole}
 use Rattle.laws.specs.Tests.{both}
@@ -115,13 +115,6 @@ module _ (cutoff rate : Float) (w : Window) (i0 : Float) (n : ℕ) where
 
   pub refuses : (why : Refusal) → judgement_of cutoff rate w n ≡ Err why → lowpass_with cutoff rate w i0 n ≡ Err why
   refuses why e = judged (Err why) e
-
--- ---- an answer for an equal design, and one that is a refusal
-pub prepares_as : {d e r : Result Lowpass Refusal} {rs : List Float} → d ≡ e → PreparesLowpass d r rs → PreparesLowpass e r rs
-prepares_as {d} {e} {r} {rs} p f = subst (λ (z : Result Lowpass Refusal). PreparesLowpass z r rs) p f
-
-pub prepares_refusal : (d : Result Lowpass Refusal) (why : Refusal) (rs : List Float) → d ≡ Err why → PreparesLowpass d (Err why) rs
-prepares_refusal d why rs e = record { is = sym e; raws = λ l g. absurd (refused_never g) }
 
 -- ---- what an accepted ticket tells
 -- numbers that pass, and the design by them

@@ -10,6 +10,7 @@ use Rattle.laws.specs.Sums.{sum_to}
 use Rattle.math_numbers.specs.Numbers.{positive}
 use Rattle.verdict.specs.declared.Refusal.TheVariants.{Plain, Range}
 use Rattle.verdict.specs.Outcome.{Outcome}
+use Rattle.fir_design.specs.Designs as Designs
 use Rattle.win_settling.specs.Settling.{kaiser_settles}
 use Rattle.fir_sinc.specs.Windows.{norm_of}
 use Rattle.fir_sinc.specs.Taps.{raw_at}
@@ -98,5 +99,4 @@ taps_of l n = tabulate n (tap_of l)
 
 -- ---- what comes of a ticket
 abbrev pub outcome_of : Result Lowpass Refusal → Outcome
-outcome_of (Ok l) = Outcome.Designed l.n l.sum (tap_of l)
-outcome_of (Err why) = Outcome.Refused why
+outcome_of d = Designs.outcome_of (λ l. l.n) (λ l. l.sum) tap_of d
