@@ -6,10 +6,11 @@ ghost use Rattle.std.specs.Prelude.{◌≡◌, ℕ, ◌<◌, ◌≤◌, List, le
 ghost use Rattle.std.specs.Float.{nan};
 ghost use Rattle.laws.specs.Binary64.{◌⊘◌};
 ghost use Rattle.verdict.specs.Outcome.{judged_of};
+ghost use Rattle.verdict.specs.Reports.{outcome_report};
 ghost use Rattle.fir_design.specs.Designs.{fitted_of, outcome_of};
 
 use math_numbers::TAP_LIMIT;
-use verdict::{Judged, Refusal};
+use verdict::{Judged, Refusal, Report};
 
 // A kind of design.
 pub trait Design: Copy {
@@ -91,4 +92,11 @@ pub fn judged<D: Design>(designed: Result<D, Refusal>) -> Result<Judged, Refusal
         taps: d.count(),
         divisor: d.divisor(),
     })
+}
+
+// What is told of a design without its buffer.
+pub fn told<D: Design>(designed: Result<D, Refusal>) -> Report
+    ensures { result ≡ outcome_report (outcome_of D.count D.divisor D.tap designed) }
+{
+    Report::from(judged(designed))
 }
