@@ -26,7 +26,7 @@ returns g c =
     let kind = g.D.Design in
     let e : c.loop-i.i ≡ length c.args.taps.now = omega arith in
     let k = fill_all c.loop-i.i (kind.tap c.in_ok-design.design) c.args.taps.now (omega arith) in
-    fills (ap (outcome_of kind.count kind.divisor kind.tap) c.in_ok-design.was) cc
+    fills {after = c.loop-i.taps} (ap (outcome_of kind.count kind.divisor kind.tap) c.in_ok-design.was) cc
 
 pub returns-in_err-design : goal.returns-in_err-design
 returns-in_err-design g c =
