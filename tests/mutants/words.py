@@ -104,6 +104,9 @@ class Source:
             if words[k] == "impl":
                 end = words.index("{", k)
                 method_of = (impl_name(words[k + 1 : end]), self.closing(end), "for" in words[k:end])
+            elif words[k] == "trait":
+                end = words.index("{", k)
+                method_of = (words[k + 1], self.closing(end), True)
             elif words[k] == "fn":
                 end = self.read_function(k, *(method_of[::2] if k < method_of[1] else (None, False)))
             elif words[k] == "const":
@@ -121,6 +124,9 @@ class Source:
     def read_function(self, k, record, of_trait):
         words, opens = self.words, self.words.index("(", k)
         closes = self.closing(opens)
+        ends = words.index(";", closes) if ";" in words[closes:] else len(words)
+        if ends < words.index("{", closes):
+            return ends  # a trait's function that each impl gives
         body = words.index("{", closes)
         split = [self.joined(a, b).split(" : ") for a, b in self.parts(opens)]
         params = {part[0].split()[-1]: (part[1], False) for part in split if len(part) == 2}

@@ -62,13 +62,8 @@ pub fn kept(n: u64, raws: &[f64]) -> usize
     ensures taps { result ≤ n }
     ensures few { 0 < result → n ≤ 16777216 }
 {
-    if n > TAP_LIMIT {
-        0
-    } else if (n as usize) < raws.len() {
-        n as usize
-    } else {
-        raws.len()
-    }
+    let most = if n > TAP_LIMIT { 0 } else { n };
+    (most as usize).min(raws.len())
 }
 
 // The design for a buffer of `len` elements: refused as it is, then 8 where the taps are not `len`.

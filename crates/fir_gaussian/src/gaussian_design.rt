@@ -151,7 +151,7 @@ impl Design for Gaussian {
     ghost keeps = { Caches };
 
     fn count(self) -> u64 {
-        self.n
+        self.len()
     }
 
     fn divisor(self) -> f64 {

@@ -106,7 +106,7 @@ impl Design for HalfbandDesign {
     ghost keeps = { λ d. Caches d.lp };
 
     fn count(self) -> u64 {
-        self.n
+        self.len()
     }
 
     fn divisor(self) -> f64 {

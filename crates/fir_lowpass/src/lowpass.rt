@@ -154,7 +154,7 @@ impl Design for Lowpass {
     ghost keeps = { Caches };
 
     fn count(self) -> u64 {
-        self.n
+        self.len()
     }
 
     fn divisor(self) -> f64 {

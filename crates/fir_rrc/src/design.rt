@@ -188,7 +188,7 @@ impl Design for Rrc {
     ghost keeps = { λ d rs. Unit {0} };
 
     fn count(self) -> u64 {
-        self.n
+        self.len()
     }
 
     fn divisor(self) -> f64 {
