@@ -52,13 +52,7 @@ pub fn pel_channelizer_lowpass(
 ) -> Report
     ensures { result ≡ outcome_report (outcome_of (channelizer_lowpass_of channels branch passband stopband attenuation)) }
 {
-    told(fir_channelizer::channelizer_lowpass(
-        channels,
-        branch,
-        passband,
-        stopband,
-        attenuation,
-    ))
+    told(fir_channelizer::channelizer_lowpass(channels, branch, passband, stopband, attenuation))
 }
 
 // Fills the buffer with the taps of the prototype, eight bytes each, the lowest first; answers as

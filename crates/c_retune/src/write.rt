@@ -31,7 +31,12 @@ pub(crate) fn left(kept: Design, why: Refusal) -> Tuned
 
 // Writes the taps of a low-pass that the buffer fits, and tells its record, their number and their divisor; tells a
 // refusal, and leaves the record and the buffer.
-pub(crate) fn written(kept: Design, designed: Result<Lowpass, Refusal>, raws: &[f64], out: &mut [u8]) -> Tuned
+pub(crate) fn written(
+    kept: Design,
+    designed: Result<Lowpass, Refusal>,
+    raws: &[f64],
+    out: &mut [u8],
+) -> Tuned
     requires { Fits Caches outcome_of designed raws.now (length out.old) }
     ensures { Tunes kept designed out.old result out.new }
 {

@@ -6,7 +6,10 @@ use fir_design::Design;
 use verdict::Refusal;
 
 // Fills the buffer with the taps of a design, as many as it has elements, or leaves it as it came.
-pub(crate) fn finish<D: Design>(designed: Result<D, Refusal>, taps: &mut [f64]) -> Result<(), Refusal>
+pub(crate) fn finish<D: Design>(
+    designed: Result<D, Refusal>,
+    taps: &mut [f64],
+) -> Result<(), Refusal>
     ensures { Fills (outcome_of D.count D.divisor D.tap designed) taps.old result taps.new }
 {
     let design = designed?;

@@ -38,11 +38,10 @@ pub fn put_taps<D: Design>(design: D, raws: &[f64], out: &mut [u8])
     }
 }
 
-// Writes the taps of a design that the buffer fits, and tells their number and their divisor; tells a refusal, and
+// Writes the taps of a design, in a buffer that they fit, and tells their number and their divisor; tells a refusal, and
 // leaves the buffer.
 pub fn write<D: Design>(designed: Result<D, Refusal>, raws: &[f64], out: &mut [u8]) -> Report
-    requires { Fits D.keeps (outcome_of D.count D.divisor D.tap) designed raws.now (length out.old) }
-    ensures { Writes float_bytes (outcome_of D.count D.divisor D.tap designed) out.old result out.new }
+    ensures { Fits D.keeps (outcome_of D.count D.divisor D.tap) designed raws.now (length out.old) → Writes float_bytes (outcome_of D.count D.divisor D.tap designed) out.old result out.new }
 {
     match designed {
         Ok(design) => {

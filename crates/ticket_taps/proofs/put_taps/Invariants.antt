@@ -1,6 +1,6 @@
 -- `ticket_taps::put_taps` meets its contract. The loop's invariant: where the first taps stood in a buffer that came,
 -- as many as the loop began with, the first i stand in it now. Assumes nothing.
-use Rattle.std.proofs.Common.{◌≡◌, ℕ, List, ◌*◌, ◌/◌, ◌≤◌, length}
+use Rattle.std.proofs.Common.{◌≡◌, ℕ, List, length}
 use lib.Ieee.{binary64, to_bits}
 use Rattle.wire.specs.WrittenPrefix.{WrittenPrefix}
 use Rattle.ticket_taps.proofs.put_taps.Given as goal

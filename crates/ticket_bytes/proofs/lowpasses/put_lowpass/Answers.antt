@@ -16,14 +16,8 @@ returns-then-len-ne0 c =
     let outcome : Outcome = outcome_of (lowpass_of c.args.cutoff c.args.rate c.args.window (len / 8)) in
     leaves_part 8 len outcome c.if-len-ne0.true c.from.ensures
 
-pub write-requires : goal.write-requires
-write-requires c =
-    let len : ℕ = length c.args.out.now in
-    let outcome : Outcome = outcome_of (lowpass_of c.args.cutoff c.args.rate c.args.window (len / 8)) in
-    fits len c.prepare-designed.ensures (room len c.if-len-ne0.false outcome (lowpass_count c.args.cutoff c.args.rate c.args.window (len / 8)))
-
 pub returns : goal.returns
 returns c =
     let len : ℕ = length c.args.out.now in
     let outcome : Outcome = outcome_of (lowpass_of c.args.cutoff c.args.rate c.args.window (len / 8)) in
-    writes_whole 8 len outcome c.if-len-ne0.false (ap outcome_of c.prepare-designed.ensures.is) c.write.ensures
+    writes_whole 8 len outcome c.if-len-ne0.false (ap outcome_of c.prepare-designed.ensures.is) (c.write.ensures (fits len c.prepare-designed.ensures (room len c.if-len-ne0.false outcome (lowpass_count c.args.cutoff c.args.rate c.args.window (len / 8)))))

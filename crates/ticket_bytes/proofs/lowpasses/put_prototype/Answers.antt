@@ -21,16 +21,9 @@ returns-then-len-ne0 c =
     let outcome : Outcome = outcome_of (fitted_of design (len / 8)) in
     leaves_part 8 len outcome c.if-len-ne0.true c.from.ensures
 
-pub write-requires : goal.write-requires
-write-requires c =
-    let len : ℕ = length c.args.out.now in
-    let design : Result Lowpass Refusal = let a = c.args in channelizer_lowpass_of a.channels a.branch a.passband a.stopband a.attenuation in
-    let outcome : Outcome = outcome_of (fitted_of design (len / 8)) in
-    fits len c.fitted-designed.ensures (room len c.if-len-ne0.false outcome (channelizer_count design (len / 8)))
-
 pub returns : goal.returns
 returns c =
     let len : ℕ = length c.args.out.now in
     let design : Result Lowpass Refusal = let a = c.args in channelizer_lowpass_of a.channels a.branch a.passband a.stopband a.attenuation in
     let outcome : Outcome = outcome_of (fitted_of design (len / 8)) in
-    writes_whole 8 len outcome c.if-len-ne0.false (ap outcome_of c.fitted-designed.ensures.is) c.write.ensures
+    writes_whole 8 len outcome c.if-len-ne0.false (ap outcome_of c.fitted-designed.ensures.is) (c.write.ensures (fits len c.fitted-designed.ensures (room len c.if-len-ne0.false outcome (channelizer_count design (len / 8)))))

@@ -19,16 +19,9 @@ returns-then-len-ne0 c =
     let outcome : Outcome = outcome_of (fitted_of design (len / 8)) in
     leaves_part 8 len outcome c.if-len-ne0.true c.from.ensures
 
-pub write-requires : goal.write-requires
-write-requires c =
-    let len : ℕ = length c.args.out.now in
-    let design : Result Rrc Refusal = let a = c.args in rrc_of a.rolloff a.samples a.span in
-    let outcome : Outcome = outcome_of (fitted_of design (len / 8)) in
-    fits len (record { is = c.fitted-designed.ensures; raws = λ d e. tt }) (room len c.if-len-ne0.false outcome (rrc_count design (len / 8)))
-
 pub returns : goal.returns
 returns c =
     let len : ℕ = length c.args.out.now in
     let design : Result Rrc Refusal = let a = c.args in rrc_of a.rolloff a.samples a.span in
     let outcome : Outcome = outcome_of (fitted_of design (len / 8)) in
-    writes_whole 8 len outcome c.if-len-ne0.false (ap outcome_of c.fitted-designed.ensures) c.write.ensures
+    writes_whole 8 len outcome c.if-len-ne0.false (ap outcome_of c.fitted-designed.ensures) (c.write.ensures (fits len (record { is = c.fitted-designed.ensures; raws = λ d e. tt }) (room len c.if-len-ne0.false outcome (rrc_count design (len / 8)))))
