@@ -127,7 +127,9 @@ class Source:
     def read_function(self, k, record, of_trait, others):
         words, opens = self.words, self.words.index("(", k)
         closes = self.closing(opens)
-        body = words.index("{", closes)
+        body = self.outside(closes + 1, len(words), ";", "{")[0]
+        if words[body] == ";":
+            return body  # a trait's function that each impl gives
         split = [self.joined(a, b).split(" : ") for a, b in self.parts(opens)]
         params = {part[0].split()[-1]: (part[1], False) for part in split if len(part) == 2}
         if record and words[opens + 1] == "self":

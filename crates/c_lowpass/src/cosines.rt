@@ -8,8 +8,8 @@ ghost use Rattle.wire.specs.Bytes.{float_bytes};
 ghost use Rattle.wire.specs.Writes.{Writes};
 ghost use Rattle.c_lowpass.specs.Lowpass.{lowpass_coded, lowpass_bytes};
 
-use super::told::told_lowpass;
 use fir_cache::CACHED;
+use fir_design::told;
 use fir_lowpass::lowpass::Lowpass;
 use fir_sinc::window::Window;
 use ticket_bytes::lowpasses::put_lowpass;
@@ -24,7 +24,7 @@ use win_shapes::cosines::Cosines;
 pub fn pel_lowpass_cosines_new(cutoff: f64, rate: f64, window: Cosines, taps: u64) -> Report
     ensures { result ≡ outcome_report (outcome_of (lowpass_coded cutoff rate (Some (Window.Cosines window)) taps)) }
 {
-    told_lowpass(Lowpass::new(cutoff, rate, Window::Cosines(window), taps))
+    told(Lowpass::new(cutoff, rate, Window::Cosines(window), taps))
 }
 
 // Fills the buffer with the taps of a design, eight bytes each, the lowest first, as many as it has room for; answers

@@ -7,4 +7,3 @@ pub mod cosines;
 pub mod lowpass;
 pub mod prototype;
 pub mod spec;
-pub mod told;

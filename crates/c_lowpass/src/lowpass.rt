@@ -7,8 +7,8 @@ ghost use Rattle.wire.specs.Bytes.{float_bytes};
 ghost use Rattle.wire.specs.Writes.{Writes};
 ghost use Rattle.c_lowpass.specs.Lowpass.{lowpass_coded, lowpass_bytes};
 
-use super::told::told_lowpass;
 use fir_cache::CACHED;
+use fir_design::told;
 use fir_lowpass::lowpass::Lowpass;
 use ticket_bytes::lowpasses::put_lowpass;
 use ticket_codes::window_of;
@@ -25,7 +25,7 @@ pub fn pel_lowpass_new(cutoff: f64, rate: f64, window: u64, beta: f64, taps: u64
 {
     let coded = window_of(window, beta);
     match coded {
-        Some(w) => told_lowpass(Lowpass::new(cutoff, rate, w, taps)),
+        Some(w) => told(Lowpass::new(cutoff, rate, w, taps)),
         None => Report::from(Refusal::Plain(Reason::Code)),
     }
 }

@@ -7,8 +7,8 @@ ghost use Rattle.wire.specs.Bytes.{float_bytes};
 ghost use Rattle.wire.specs.Writes.{Writes};
 ghost use Rattle.c_lowpass.specs.Prototype.{channelizer_bytes};
 
-use super::told::told_lowpass;
 use fir_cache::CACHED;
+use fir_design::told;
 use ticket_bytes::lowpasses::put_prototype;
 use verdict::Report;
 
@@ -52,13 +52,7 @@ pub fn pel_channelizer_lowpass(
 ) -> Report
     ensures { result ≡ outcome_report (outcome_of (channelizer_lowpass_of channels branch passband stopband attenuation)) }
 {
-    told_lowpass(fir_channelizer::channelizer_lowpass(
-        channels,
-        branch,
-        passband,
-        stopband,
-        attenuation,
-    ))
+    told(fir_channelizer::channelizer_lowpass(channels, branch, passband, stopband, attenuation))
 }
 
 // Fills the buffer with the taps of the prototype, eight bytes each, the lowest first; answers as

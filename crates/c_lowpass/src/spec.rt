@@ -7,8 +7,8 @@ ghost use Rattle.wire.specs.Bytes.{float_bytes};
 ghost use Rattle.wire.specs.Writes.{Writes};
 ghost use Rattle.c_lowpass.specs.Spec.{spec_of, spec_bytes};
 
-use super::told::told_lowpass;
 use fir_cache::CACHED;
+use fir_design::told;
 use fir_spec::DesignSpec;
 use ticket_bytes::lowpasses::put_spec;
 use verdict::Report;
@@ -54,7 +54,7 @@ pub fn pel_spec_lowpass(
         transition,
         attenuation,
     };
-    told_lowpass(spec.lowpass(rate, cap))
+    told(spec.lowpass(rate, cap))
 }
 
 // Fills the buffer with the taps of the design, eight bytes each, the lowest first; answers as pel_spec_lowpass.

@@ -6,6 +6,7 @@ ghost use Rattle.wire.specs.Bytes.{float_bytes};
 ghost use Rattle.wire.specs.Writes.{Writes};
 ghost use Rattle.c_pulses.specs.Buffers.{rrc_bytes};
 
+use fir_design::told;
 use fir_rrc::design::Rrc;
 use ticket_bytes::pulses::put_rrc;
 use verdict::Report;
@@ -23,11 +24,7 @@ pub fn pel_rrc_len(samples: u64, span: u64) -> Report
 pub fn pel_rrc_new(rolloff: f64, samples: u64, span: u64) -> Report
     ensures { result ≡ outcome_report (outcome_of (rrc_of rolloff samples span)) }
 {
-    let designed = Rrc::new(rolloff, samples, span);
-    match designed {
-        Ok(d) => Report::accepted(d.n, d.norm),
-        Err(why) => Report::from(why),
-    }
+    told(Rrc::new(rolloff, samples, span))
 }
 
 // Fills the buffer with the taps of the pulse, eight bytes each, the lowest first; answers as pel_rrc_new. Refused, in

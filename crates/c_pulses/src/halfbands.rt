@@ -7,6 +7,7 @@ ghost use Rattle.wire.specs.Writes.{Writes};
 ghost use Rattle.c_pulses.specs.Buffers.{halfband_bytes};
 
 use fir_cache::CACHED;
+use fir_design::told;
 use fir_halfband::HalfbandDesign;
 use ticket_bytes::pulses::put_halfband;
 use verdict::Report;
@@ -18,11 +19,7 @@ use verdict::Report;
 pub fn pel_halfband_new(beta: f64, taps: u64) -> Report
     ensures { result ≡ outcome_report (outcome_of (halfband_of beta taps)) }
 {
-    let designed = HalfbandDesign::new(beta, taps);
-    match designed {
-        Ok(d) => Report::accepted(d.n, d.sum),
-        Err(why) => Report::from(why),
-    }
+    told(HalfbandDesign::new(beta, taps))
 }
 
 // Fills the buffer with the taps of a half-band, eight bytes each, the lowest first, as many as it has room for;

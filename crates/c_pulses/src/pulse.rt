@@ -7,6 +7,7 @@ ghost use Rattle.wire.specs.Writes.{Writes};
 ghost use Rattle.c_pulses.specs.Buffers.{gaussian_bytes};
 
 use fir_cache::CACHED;
+use fir_design::told;
 use fir_gaussian::gaussian_design::Gaussian;
 use ticket_bytes::pulses::put_gaussian;
 use verdict::Report;
@@ -17,11 +18,7 @@ use verdict::Report;
 pub fn pel_gaussian_new(bt: f64, samples: u64, span: u64) -> Report
     ensures { result ≡ outcome_report (outcome_of (gaussian_of bt samples span)) }
 {
-    let designed = Gaussian::new(bt, samples, span);
-    match designed {
-        Ok(g) => Report::accepted(g.n, g.sum),
-        Err(why) => Report::from(why),
-    }
+    told(Gaussian::new(bt, samples, span))
 }
 
 // Fills the buffer with the taps of the pulse, eight bytes each, the lowest first; answers as pel_gaussian_new.

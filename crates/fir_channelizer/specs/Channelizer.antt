@@ -11,7 +11,7 @@ use Rattle.laws.specs.Binary64.{◌⊕◌, ◌⊖◌, ◌⊗◌, ◌⊘◌, whol
 use Rattle.laws.specs.Floor.{upward}
 use Rattle.math_numbers.specs.Numbers.{positive}
 use Rattle.math_round.specs.Whole.{ceil_of}
-use Rattle.verdict.specs.declared.Refusal.TheVariants as Refusal
+use Rattle.fir_design.specs.Designs as Designs
 use Rattle.fir_length.specs.Kaiser.{beta_of, estimate}
 use Rattle.fir_lowpass.specs.Lowpass.{where_passed, lowpass_of}
 use Rattle.fir_sinc.specs.declared.window.Window.TheVariants.{Kaiser}
@@ -78,5 +78,4 @@ channelizer_lowpass_of m l passband stopband a =
 
 -- for a buffer of len elements, tested last
 abbrev pub fitted_of : Result Lowpass Refusal → ℕ → Result Lowpass Refusal
-fitted_of (Ok l) len = cond (l.n == len) (Ok l) (Err (Refusal.Length l.n len))
-fitted_of (Err why) len = Err why
+fitted_of d len = Designs.fitted_of (λ l. l.n) d len

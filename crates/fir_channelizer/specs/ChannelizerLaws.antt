@@ -1,22 +1,21 @@
 -- Each outcome of the judgement of a channelizer's prototype, from what the tests said, and what an accepted ticket
 -- tells. Assumes nothing.
-use Rattle.std.specs.Prelude.{◌≡◌, ℕ, ◌+◌, ◌-◌, ◌*◌, ◌/◌, ◌%◌, ◌<◌, ◌≤◌, Bool, true, false, cond, ◌||◌, List, ◌==◌, ◌≢◌, nat_eq, nat_le, Float, Err, Ok, Result}
+use Rattle.std.specs.Prelude.{◌≡◌, ℕ, ◌+◌, ◌-◌, ◌*◌, ◌/◌, ◌%◌, ◌<◌, ◌≤◌, Bool, true, false, cond, ◌||◌, ◌==◌, ◌≢◌, nat_eq, nat_le, Float, Err, Ok, Result}
 use Rattle.std.proofs.Math.Path.{refl}
-use Rattle.std.proofs.Common.{sym, ap, ◌∙◌, subst, true≢false, le_trans, mul-le-mul_left, mul-le-mul_right, div-add-mod', mod-lt, arith, leb-true, eqb-true, eq-eqb, lit≤}
+use Rattle.std.proofs.Common.{sym, ap, ◌∙◌, true≢false, le_trans, mul-le-mul_left, mul-le-mul_right, div-add-mod', mod-lt, arith, leb-true, eqb-true, lit≤}
 use Rattle.std.proofs.Math.Arith.{digits_div}
 use Rattle.laws.specs.Binary64.{◌⊕◌, ◌⊖◌, ◌⊗◌, ◌⊘◌, whole}
 use Rattle.laws.specs.Floor.{upward}
 use Rattle.laws.specs.Tests.{both}
-use Rattle.laws.specs.Results.{refused_never, same_answer}
+use Rattle.laws.specs.Results.{refused_never}
 use Rattle.verdict.specs.declared.Refusal.{Refusal}
 use Rattle.fir_length.specs.Kaiser.{beta_of, estimate}
-use Rattle.fir_lowpass.specs.Lowpass.{where_passed, lowpass_of, outcome_of}
-use Rattle.fir_lowpass.proofs.LowpassLaws.{prepares_as}
-use Rattle.fir_lowpass.specs.Cached.{PreparesLowpass}
+use Rattle.fir_lowpass.specs.Lowpass.{where_passed, lowpass_of, tap_of, outcome_of}
 use Rattle.fir_sinc.specs.declared.window.Window.TheVariants.{Kaiser}
 use Rattle.fir_lowpass.specs.declared.lowpass.Lowpass.{Lowpass}
 use Rattle.fir_channelizer.specs.Channelizer.{channels_taken, branch_taken, edges_of, taps_in, channelizer_taps_of, channelizer_lowpass_of, fitted_of}
-use Rattle.verdict.specs.Counted.{Counted, where_equal, fitted}
+use Rattle.verdict.specs.Counted.{Counted}
+use Rattle.fir_design.specs.DesignsLaws as Designs
 use Rattle.verdict.specs.declared.Reason.TheVariants as Reason
 
 -- ---- the numbers that are taken
@@ -108,12 +107,6 @@ module _ (n m : ℕ) (h : 4 ≤ m) where
       let k = mul-le-mul_left (n / m) h in
       omega arith
 
--- ---- for a buffer of len elements
-pub fits_as : {d r : Result Lowpass Refusal} {rs : List Float} {l : Lowpass} {len : ℕ} → r ≡ Ok l → l.n ≡ len → PreparesLowpass d r rs → PreparesLowpass (fitted_of d len) (Ok l) rs
-fits_as {d} {r} {rs} {l} {len} e h f =
-    let g : d ≡ Ok l = sym f.is ∙ e in
-    subst (λ (z : Result Lowpass Refusal). PreparesLowpass (fitted_of d len) z rs) e (prepares_as (g ∙ sym (ap (λ (z : Result Lowpass Refusal). fitted_of z len) g ∙ rw (eq-eqb l.n len h))) f)
-
 -- ---- what an accepted ticket tells
 pub accepted : (m l : ℕ) (passband stopband a : Float) (d : Lowpass) → channelizer_lowpass_of m l passband stopband a ≡ Ok d → lowpass_of ((passband ⊕ stopband) ⊘ (whole 2 ⊗ whole m)) (whole 1) (Kaiser (beta_of a)) (m * l) ≡ Ok d
 unfolding channelizer_lowpass_of
@@ -127,8 +120,8 @@ accepted m l passband stopband a d e = go (channels_taken m) (branch_taken l) (e
 
 -- and one for a buffer: the design is accepted without the buffer too, and has as many taps as that has elements
 fitted_is : (g : Result Lowpass Refusal) (len : ℕ) (d : Lowpass) → fitted_of g len ≡ Ok d → (g ≡ Ok d) × (d.n ≡ len)
-fitted_is (Err why) len d e = absurd (refused_never e)
-fitted_is (Ok g) len d e = fitted Ok (λ (l : Lowpass). l.n) (Err (Refusal.Length g.n len)) len g d (λ x y q. same_answer q) (λ q. refused_never q) e
+fitted_is g len d e = Designs.fitted_is (λ (l : Lowpass). l.n) g len d e
+
 pub record Fitted (m l : ℕ) (passband stopband a : Float) (len : ℕ) (d : Lowpass) : Type 0 where
   pub is : lowpass_of ((passband ⊕ stopband) ⊘ (whole 2 ⊗ whole m)) (whole 1) (Kaiser (beta_of a)) (m * l) ≡ Ok d
   pub long : d.n ≡ len
@@ -140,5 +133,4 @@ fitted_accepted m l passband stopband a len d e =
 
 -- so an accepted one has as many taps as its buffer has elements
 pub channelizer_count : (d : Result Lowpass Refusal) (len : ℕ) → Counted len (outcome_of (fitted_of d len))
-channelizer_count (Ok l) len = where_equal outcome_of len _ _ l.n len (λ e. e) tt
-channelizer_count (Err why) len = tt
+channelizer_count d len = Designs.fitted_count (λ (l : Lowpass). l.n) (λ (l : Lowpass). l.sum) tap_of d len

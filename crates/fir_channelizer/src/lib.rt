@@ -163,16 +163,13 @@ pub fn fitted(
 ) -> Result<Lowpass, Refusal>
     ensures { PreparesLowpass (fitted_of (channelizer_lowpass_of channels branch passband stopband attenuation) len) result raws.new }
 {
-    let lp = prepare(
+    let designed = prepare(
         channels,
         branch,
         passband,
         stopband,
         attenuation,
         &mut *raws,
-    )?;
-    if lp.n != len {
-        return Err(Refusal::Length(lp.n, len));
-    }
-    Ok(lp)
+    );
+    fir_design::fitted(designed, len)
 }

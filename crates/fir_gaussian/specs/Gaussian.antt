@@ -1,13 +1,15 @@
 -- The Gaussian pulse of GFSK and GMSK, span · sps + 1 taps. Definitions only.
 --   h[i] = exp(−a x²),  a = 2 π² bt² / ln 2,  x = (i − (n − 1)/2) / sps;  tap i is h[i] / Σ h
-use Rattle.std.specs.Prelude.{◌≡◌, ℕ, ◌+◌, ◌-◌, ◌*◌, ◌/◌, Bool, cond, ◌&&◌, List, ◌==◌, nat_le, nat_lt, Float, Err, Ok, Result}
+use Rattle.std.specs.Prelude.{ℕ, ◌+◌, ◌-◌, ◌*◌, ◌/◌, Bool, cond, ◌&&◌, List, nat_le, nat_lt, Float, Err, Ok, Result}
 use Rattle.std.specs.Float.{binary64}
 use Rattle.std.specs.Float.Ieee.{le, neg}
 use Rattle.laws.specs.Binary64.{◌⊖◌, ◌⊗◌, ◌⊘◌, whole, fraction, pi, ln2}
 use Rattle.laws.specs.Sums.{sum_to}
 use Rattle.math_exp.specs.Exp.{exp_of}
-use Rattle.verdict.specs.declared.Refusal.TheVariants.{Range, Length}
+use Rattle.verdict.specs.declared.Refusal.TheVariants.{Range}
 use Rattle.fir_cache.specs.Cached.{CachesOf}
+use Rattle.fir_design.specs.Designs as Designs
+use Rattle.fir_design.specs.Designs.{Prepares}
 use Rattle.verdict.specs.Outcome.{Outcome}
 use Rattle.fir_gaussian.specs.declared.gaussian_design.Gaussian.{Gaussian}
 use Rattle.verdict.specs.declared.Refusal.{Refusal}
@@ -50,8 +52,7 @@ gaussian_of bt sps span =
 
 -- for a buffer of len elements
 abbrev pub fitted_of : Result Gaussian Refusal → ℕ → Result Gaussian Refusal
-fitted_of (Ok g) len = cond (g.n == len) (Ok g) (Err (Length g.n len))
-fitted_of (Err why) len = Err why
+fitted_of d len = Designs.fitted_of (λ g. g.n) d len
 
 -- ---- the taps
 -- tap i of a design; 0 past the last one, and for a record that no design gives
@@ -65,11 +66,9 @@ abbrev pub Caches : Gaussian → List Float → Type 0
 Caches g rs = CachesOf (raw_at g.a g.sps g.mid) g.n rs
 
 -- an answer that is the design d, and a list that keeps its first raw taps
-pub record PreparesGaussian (d r : Result Gaussian Refusal) (rs : List Float) : Type 0 where
-  pub is : r ≡ d
-  pub raws : (g : Gaussian) → r ≡ Ok g → Caches g rs
+abbrev pub PreparesGaussian : Result Gaussian Refusal → Result Gaussian Refusal → List Float → Type 0
+PreparesGaussian d r rs = Prepares Caches d r rs
 
 -- ---- what comes of a ticket
 abbrev pub outcome_of : Result Gaussian Refusal → Outcome
-outcome_of (Ok g) = Outcome.Designed g.n g.sum (tap_of g)
-outcome_of (Err why) = Outcome.Refused why
+outcome_of d = Designs.outcome_of (λ g. g.n) (λ g. g.sum) tap_of d

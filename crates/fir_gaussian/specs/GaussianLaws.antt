@@ -1,6 +1,6 @@
 -- Each outcome of the judgement of a Gaussian pulse, from what the tests said, and what an accepted ticket tells.
 -- Assumes nothing.
-use Rattle.std.specs.Prelude.{◌≡◌, ℕ, ◌+◌, ◌-◌, ◌*◌, ◌/◌, ◌<◌, ◌≤◌, Bool, true, false, cond, List, length, ◌≢◌, nat_le, slice_index_or, refl, Float, Err, Ok, Result}
+use Rattle.std.specs.Prelude.{◌≡◌, ℕ, ◌+◌, ◌-◌, ◌*◌, ◌/◌, ◌<◌, ◌≤◌, Bool, true, false, cond, List, length, nat_le, slice_index_or, refl, Float, Err, Ok, Result}
 use Rattle.std.proofs.Common.{sym, ap, ◌∙◌, subst, le_trans, le_of_eq, mul_comm, le-div_iff_mul-le, arith, leb-true, lt-ltb, le-ltb}
 use Rattle.std.specs.Float.{nan}
 use Rattle.laws.specs.Binary64.{◌⊘◌, whole, fraction}
@@ -8,10 +8,11 @@ use Rattle.laws.specs.Tests.{both}
 use Rattle.laws.specs.Results.{refused_never, same_answer}
 use Rattle.fir_cache.specs.Cached.{SumCached}
 use Rattle.verdict.specs.declared.Refusal.{Refusal}
-use Rattle.verdict.specs.declared.Refusal.TheVariants.{Range, Length}
+use Rattle.verdict.specs.declared.Refusal.TheVariants.{Range}
 use Rattle.fir_gaussian.specs.Gaussian.{exponent, raw_at, bt_taken, span_taken, samples_taken, made_of, gaussian_of, fitted_of, tap_of, Caches, PreparesGaussian, outcome_of}
 use Rattle.fir_gaussian.specs.declared.gaussian_design.Gaussian.{Gaussian}
-use Rattle.verdict.specs.Counted.{Counted, where_equal, fitted}
+use Rattle.verdict.specs.Counted.{Counted}
+use Rattle.fir_design.specs.DesignsLaws as Designs
 use Rattle.verdict.specs.declared.Reason.TheVariants as Reason
 
 -- ---- the numbers that are taken
@@ -72,13 +73,9 @@ accepted bt sps span g e = go (bt_taken bt) (span_taken span) (samples_taken sps
 
 -- and one for a buffer: the design is accepted without the buffer too, and has as many taps as that has elements
 pub fitted_is : (d : Result Gaussian Refusal) (len : ℕ) (g : Gaussian) → fitted_of d len ≡ Ok g → (d ≡ Ok g) × (g.n ≡ len)
-fitted_is (Err why) len g e = absurd (refused_never e)
-fitted_is (Ok d) len g e = fitted Ok (λ (x : Gaussian). x.n) (Err (Length d.n len)) len d g (λ x y q. same_answer q) (λ q. refused_never q) e
+fitted_is d len g e = Designs.fitted_is (λ (x : Gaussian). x.n) d len g e
 
 -- ---- answers with what was kept
-pub refuses : (d : Result Gaussian Refusal) (rs : List Float) (why : Refusal) → d ≡ Err why → PreparesGaussian d (Err why) rs
-refuses d rs why h = record { is = sym h; raws = λ g e. absurd (refused_never e) }
-
 pub accepts : (bt : Float) (sps n : ℕ) (s : Float) (rs : List Float) (d : Result Gaussian Refusal) → d ≡ Ok (made_of bt sps n)
     → SumCached (raw_at (exponent bt) (whole sps) (whole (n - 1) ⊘ whole 2)) n s rs
     → PreparesGaussian d (Ok (record { a = exponent bt; sps = whole sps; mid = whole (n - 1) ⊘ whole 2; n = n; sum = s })) rs
@@ -90,10 +87,6 @@ accepts bt sps n s rs d h t =
       raws = λ g e. subst (λ (z : Gaussian). Caches z rs) (same_answer e) t.keeps;
     }
 
--- a design that was prepared, by another name
-pub keeps_as : (d e : Result Gaussian Refusal) (g : Gaussian) {r : Result Gaussian Refusal} {rs : List Float} → PreparesGaussian d r rs → r ≡ Ok g → e ≡ Ok g → PreparesGaussian e (Ok g) rs
-keeps_as d e g {r} p h k = record { is = sym k; raws = λ x q. p.raws x (h ∙ q) }
-
 -- a tap from a raw tap that was kept
 pub cached_is : (g : Gaussian) (rs : List Float) (i : ℕ) → g.n ≤ 16777216 → i < g.n → i < length rs → Caches g rs → slice_index_or rs i nan ⊘ g.sum ≡ tap_of g i
 unfolding tap_of
@@ -101,5 +94,4 @@ cached_is g rs i h b m k = ap (λ (z : Float). z ⊘ g.sum) (k i b m) ∙ sym (r
 
 -- ---- an accepted pulse has as many taps as its buffer has elements
 pub gaussian_count : (d : Result Gaussian Refusal) (len : ℕ) → Counted len (outcome_of (fitted_of d len))
-gaussian_count (Ok g) len = where_equal outcome_of len _ _ g.n len (λ e. e) tt
-gaussian_count (Err why) len = tt
+gaussian_count d len = Designs.fitted_count (λ (g : Gaussian). g.n) (λ (g : Gaussian). g.sum) tap_of d len

@@ -4,6 +4,7 @@ ghost use Rattle.fir_cache.specs.Cached.{SumCached};
 ghost use Rattle.fir_gaussian.specs.Gaussian.{bt_taken, span_taken, samples_taken, raw_at, gaussian_of, fitted_of, tap_of, Caches, PreparesGaussian};
 
 use fir_cache::keep;
+use fir_design::Design;
 use math_numbers::{PI, TAP_LIMIT};
 use verdict::{Reason, Refusal};
 
@@ -140,20 +141,37 @@ impl Gaussian {
     }
 }
 
+impl Design for Gaussian {
+    ghost count = { λ g. g.n };
+
+    ghost divisor = { λ g. g.sum };
+
+    ghost tap = { tap_of };
+
+    ghost keeps = { Caches };
+
+    fn count(self) -> u64 {
+        self.len()
+    }
+
+    fn divisor(self) -> f64 {
+        self.sum
+    }
+
+    fn tap(self, i: u64) -> f64 {
+        Gaussian::tap(self, i)
+    }
+
+    fn quotients(self, raws: &[f64]) -> usize {
+        fir_design::kept(self.n, raws)
+    }
+}
+
 // The same from a list that keeps the design's first raw taps, which are taken from there.
 pub fn cached_tap(g: Gaussian, raws: &[f64], i: u64) -> f64
     ensures { Caches g raws.now → result ≡ tap_of g i }
 {
-    let n = g.n;
-    let k = i as usize;
-    if k < raws.len() {
-        if i < n {
-            if n <= TAP_LIMIT {
-                return raws[k] / g.sum;
-            }
-        }
-    }
-    g.tap(i)
+    Design::cached_tap(g, raws, i)
 }
 
 // The design for a buffer of `len` elements: refused as `prepare`, then 8 where the taps are not `len`.
@@ -161,9 +179,5 @@ pub fn cached_tap(g: Gaussian, raws: &[f64], i: u64) -> f64
 pub fn fitted(bt: f64, sps: u64, span: u64, len: u64, raws: &mut [f64]) -> Result<Gaussian, Refusal>
     ensures { PreparesGaussian (fitted_of (gaussian_of bt sps span) len) result raws.new }
 {
-    let g = prepare(bt, sps, span, &mut *raws)?;
-    if g.n != len {
-        return Err(Refusal::Length(g.n, len));
-    }
-    Ok(g)
+    fir_design::fitted(prepare(bt, sps, span, &mut *raws), len)
 }

@@ -1,12 +1,14 @@
 -- The half-band of n taps, n mod 4 = 3. Definitions only.
 --   l is the low-pass of n taps with the cutoff at a quarter of the rate and Kaiser's window, m = (n − 1)/2 the middle;
 --   h[k] = 0 where |k − m| is even and not 0, else l[k];  then h[n − 1 − k] = h[k] for k < m;  tap k is h[k] / Σ h
-use Rattle.std.specs.Prelude.{ℕ, ◌+◌, ◌-◌, ◌/◌, ◌%◌, min, ◌≡◌, Bool, cond, not, ◌&&◌, List, eqb, ltb, leb, Float, Err, Ok, Result}
+use Rattle.std.specs.Prelude.{ℕ, ◌+◌, ◌-◌, ◌/◌, ◌%◌, min, Bool, cond, not, ◌&&◌, List, eqb, ltb, leb, Float, Err, Ok, Result}
 use Rattle.std.specs.Float.{binary64}
 use Rattle.laws.specs.Binary64.{◌⊘◌, whole, fraction}
 use Rattle.laws.specs.Sums.{sum_to}
 use Rattle.verdict.specs.declared.Refusal.TheVariants.{Plain}
 use Rattle.verdict.specs.Outcome.{Outcome}
+use Rattle.fir_design.specs.Designs as Designs
+use Rattle.fir_design.specs.Designs.{Prepares}
 use Rattle.fir_lowpass.specs.Lowpass as Lowpass
 use Rattle.fir_lowpass.specs.Cached.{Caches}
 use Rattle.fir_sinc.specs.declared.window.Window.TheVariants.{Kaiser}
@@ -59,14 +61,12 @@ unfolding unscaled
 tap_of d k = cond (ltb k d.n) (unscaled d.lp d.n k ⊘ d.sum) (whole 0)
 
 -- an answer that is the design d, and, where there is one, a list that keeps the low-pass's first raw taps
-pub record PreparesHalfband (d r : Result HalfbandDesign Refusal) (rs : List Float) : Type 0 where
-  pub is : r ≡ d
-  pub raws : (h : HalfbandDesign) → r ≡ Ok h → Caches h.lp rs
+abbrev pub PreparesHalfband : Result HalfbandDesign Refusal → Result HalfbandDesign Refusal → List Float → Type 0
+PreparesHalfband d r rs = Prepares (λ h. Caches h.lp) d r rs
 
 -- what comes of a ticket
 abbrev pub outcome_of : Result HalfbandDesign Refusal → Outcome
-outcome_of (Ok d) = Outcome.Designed d.n d.sum (tap_of d)
-outcome_of (Err why) = Outcome.Refused why
+outcome_of d = Designs.outcome_of (λ h. h.n) (λ h. h.sum) tap_of d
 
 -- ---- a buffer at once
 -- the low-pass's taps cleared, then mirrored, the left half to the right

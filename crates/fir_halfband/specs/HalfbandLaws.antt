@@ -1,7 +1,7 @@
 -- Each outcome of the judgement of a half-band, from what the tests said, and what an accepted ticket tells. Assumes
 -- nothing.
 use Rattle.std.specs.Prelude.{◌≡◌, refl, Bool, true, false, cond, List, ℕ, ◌<◌, Float, Err, Ok, Result}
-use Rattle.std.proofs.Common.{sym, ap, ◌∙◌, subst, arith, lt-ltb}
+use Rattle.std.proofs.Common.{sym, ap, ◌∙◌, subst, lt-ltb}
 use Rattle.laws.specs.Binary64.{◌⊘◌}
 use Rattle.verdict.specs.declared.Refusal.{Refusal}
 use Rattle.verdict.specs.declared.Refusal.TheVariants.{Plain}
@@ -43,10 +43,6 @@ module _ (beta : Float) (n : ℕ) where
   pub no_length : length_taken n ≡ false → halfband_of beta n ≡ Err (Plain Reason.Count)
   unfolding halfband_of
   no_length a = rw a
-
-  -- a refusal, as an answer
-  pub refuses : (why : Refusal) (rs : List Float) → halfband_of beta n ≡ Err why → PreparesHalfband (halfband_of beta n) (Err why) rs
-  refuses why rs h = record { is = sym h; raws = λ d g. absurd (refused_never g) }
 
   -- a design, as an answer
   pub accepts : (l : Lowpass) (s : Float) (rs : List Float) → s ≡ divisor_of l n → Caches l rs → halfband_of beta n ≡ Ok (halved l n) → PreparesHalfband (halfband_of beta n) (Ok (record { lp = l; n = n; sum = s })) rs

@@ -8,6 +8,7 @@ ghost use Rattle.laws.specs.Sums.{sum_to};
 ghost use Rattle.fir_lowpass.specs.Cached.{Caches};
 ghost use Rattle.fir_halfband.specs.Halfband.{length_taken, vanishes, unscaled, halfband_of, tap_of, PreparesHalfband};
 
+use fir_design::Design;
 use fir_lowpass::lowpass::{Lowpass, is_usable};
 use fir_sinc::window::Window;
 use verdict::{Reason, Refusal};
@@ -92,6 +93,32 @@ pub fn cached_tap(d: HalfbandDesign, raws: &[f64], k: u64) -> f64
         unscaled_tap(lp, raws, n, k) / d.sum
     } else {
         0.0
+    }
+}
+
+impl Design for HalfbandDesign {
+    ghost count = { λ d. d.n };
+
+    ghost divisor = { λ d. d.sum };
+
+    ghost tap = { tap_of };
+
+    ghost keeps = { λ d. Caches d.lp };
+
+    fn count(self) -> u64 {
+        self.len()
+    }
+
+    fn divisor(self) -> f64 {
+        self.sum
+    }
+
+    fn tap(self, i: u64) -> f64 {
+        HalfbandDesign::tap(self, i)
+    }
+
+    fn cached_tap(self, raws: &[f64], i: u64) -> f64 {
+        cached_tap(self, raws, i)
     }
 }
 

@@ -1,6 +1,6 @@
 -- Each outcome of the judgement of a low-pass, from what the tests said. Assumes nothing.
-use Rattle.std.specs.Prelude.{◌≡◌, refl, Bool, true, false, cond, List, ℕ, ◌≤◌, ◌<◌, ltb, leb, length, Float, Err, Ok, Result}
-use Rattle.std.proofs.Common.{sym, ◌∙◌, subst, arith, ltb-true, leb-true}
+use Rattle.std.specs.Prelude.{◌≡◌, refl, Bool, true, false, cond, List, ℕ, ◌≤◌, ◌<◌, ltb, leb, Float, Err, Ok, Result}
+use Rattle.std.proofs.Common.{sym, ◌∙◌, subst, ltb-true, leb-true}
 use Rattle.std.proofs.Math.Path.{ap}
 use Rattle.laws.specs.Binary64.{◌⊘◌, whole}
 use Rattle.laws.specs.Tests.{both}
@@ -12,7 +12,7 @@ use Rattle.verdict.specs.OutcomeLaws as Outcome
 use Rattle.fir_sinc.specs.Windows.{norm_of}
 use Rattle.fir_sinc.specs.Taps.{raw_at}
 use Rattle.fir_cache.specs.Cached.{CachesOf}
-use Rattle.fir_lowpass.specs.Lowpass.{divisor_of, inside, count_taken, beta_taken, series_settle, usable, judgement_of, design_of, where_passed, lowpass_with, lowpass_of, taps_of, outcome_of}
+use Rattle.fir_lowpass.specs.Lowpass.{divisor_of, inside, count_taken, beta_taken, series_settle, usable, judgement_of, design_of, where_passed, lowpass_with, lowpass_of, outcome_of}
 use Rattle.fir_lowpass.specs.Cached.{Caches, PreparesLowpass}
 use Rattle.fir_sinc.specs.declared.window.Window.{Window}
 use Rattle.fir_lowpass.specs.declared.lowpass.Lowpass.{Lowpass}
@@ -116,13 +116,6 @@ module _ (cutoff rate : Float) (w : Window) (i0 : Float) (n : ℕ) where
   pub refuses : (why : Refusal) → judgement_of cutoff rate w n ≡ Err why → lowpass_with cutoff rate w i0 n ≡ Err why
   refuses why e = judged (Err why) e
 
--- ---- an answer for an equal design, and one that is a refusal
-pub prepares_as : {d e r : Result Lowpass Refusal} {rs : List Float} → d ≡ e → PreparesLowpass d r rs → PreparesLowpass e r rs
-prepares_as {d} {e} {r} {rs} p f = subst (λ (z : Result Lowpass Refusal). PreparesLowpass z r rs) p f
-
-pub prepares_refusal : (d : Result Lowpass Refusal) (why : Refusal) (rs : List Float) → d ≡ Err why → PreparesLowpass d (Err why) rs
-prepares_refusal d why rs e = record { is = sym e; raws = λ l g. absurd (refused_never g) }
-
 -- ---- what an accepted ticket tells
 -- numbers that pass, and the design by them
 pub record AcceptedWith (cutoff rate : Float) (w : Window) (i0 : Float) (n : ℕ) (l : Lowpass) : Type 0 where
@@ -147,15 +140,6 @@ unfolding lowpass_of
 ready_is cutoff rate w n l e =
     let a = ready_with cutoff rate w (norm_of w) n l e in
     record { counted = a.passes.counted; is = a.is }
-
--- ---- a buffer
-module _ (g : Result Lowpass Refusal) (d : List Float) where
-  pub fills : (l : Lowpass) (after : List Float) → g ≡ Ok l → after ≡ taps_of l (length d) → Fills (outcome_of g) d (Ok tt) after
-  unfolding taps_of
-  fills l after h e = Outcome.fills (ap outcome_of h) e
-
-  pub leaves : (why : Refusal) → g ≡ Err why → Fills (outcome_of g) d (Err why) d
-  leaves why h = Outcome.leaves why (ap outcome_of h)
 
 -- ---- for an equal design
 pub fills_as : {d e : Result Lowpass Refusal} {b a : List Float} {r : Result (Unit {0}) Refusal} → d ≡ e → Fills (outcome_of d) b r a → Fills (outcome_of e) b r a

@@ -1,7 +1,8 @@
 -- What stays from the sum of the raw taps to the division: the first raw taps, in a list. Definitions only.
-use Rattle.std.specs.Prelude.{◌≡◌, List, Float, Ok, Result}
+use Rattle.std.specs.Prelude.{List, Float, Result}
 use Rattle.fir_sinc.specs.Taps.{raw_at}
 use Rattle.fir_cache.specs.Cached.{CachesOf}
+use Rattle.fir_design.specs.Designs.{Prepares}
 use Rattle.fir_lowpass.specs.declared.lowpass.Lowpass.{Lowpass}
 use Rattle.verdict.specs.declared.Refusal.{Refusal}
 
@@ -10,6 +11,5 @@ abbrev pub Caches : Lowpass → List Float → Type 0
 Caches l rs = CachesOf (raw_at l.fc l.window l.i0 l.n) l.n rs
 
 -- an answer that is the design d, and, where there is one, a list that keeps its first raw taps
-pub record PreparesLowpass (d r : Result Lowpass Refusal) (rs : List Float) : Type 0 where
-  pub is : r ≡ d
-  pub raws : (l : Lowpass) → r ≡ Ok l → Caches l rs
+abbrev pub PreparesLowpass : Result Lowpass Refusal → Result Lowpass Refusal → List Float → Type 0
+PreparesLowpass d r rs = Prepares Caches d r rs

@@ -1,15 +1,15 @@
 -- The windowed-sinc low-pass of n taps with the cutoff fc, a fraction of the rate. Definitions only.
 --   tap i is h[i] / Σ h, with the raw taps h of `fir_sinc/Taps`; the window is divided by i0, the series at its beta
-use Rattle.std.specs.Prelude.{ℕ, ◌-◌, Bool, true, cond, ◌&&◌, List, ltb, leb, Float, Err, Ok, Result}
+use Rattle.std.specs.Prelude.{ℕ, ◌-◌, Bool, true, cond, ◌&&◌, ltb, leb, Float, Err, Ok, Result}
 use Rattle.std.specs.Float.{binary64}
 use Rattle.std.specs.Float.Ieee.{lt, le, ne}
 use Rattle.std.specs.Float.Ieee.Scale.{finite}
 use Rattle.laws.specs.Binary64.{◌⊘◌, whole, fraction}
-use Rattle.laws.specs.Filled.{tabulate}
 use Rattle.laws.specs.Sums.{sum_to}
 use Rattle.math_numbers.specs.Numbers.{positive}
 use Rattle.verdict.specs.declared.Refusal.TheVariants.{Plain, Range}
 use Rattle.verdict.specs.Outcome.{Outcome}
+use Rattle.fir_design.specs.Designs as Designs
 use Rattle.win_settling.specs.Settling.{kaiser_settles}
 use Rattle.fir_sinc.specs.Windows.{norm_of}
 use Rattle.fir_sinc.specs.Taps.{raw_at}
@@ -92,11 +92,6 @@ unfoldable pub tap_of : Lowpass → ℕ → Float
 unfolding raw_at
 tap_of l i = cond (ltb 16777216 l.n) (whole 0) (cond (ltb i l.n) (raw_at l.fc l.window l.i0 l.n i ⊘ l.sum) (whole 0))
 
-unfoldable pub taps_of : Lowpass → ℕ → List Float
-unfolding tap_of
-taps_of l n = tabulate n (tap_of l)
-
 -- ---- what comes of a ticket
 abbrev pub outcome_of : Result Lowpass Refusal → Outcome
-outcome_of (Ok l) = Outcome.Designed l.n l.sum (tap_of l)
-outcome_of (Err why) = Outcome.Refused why
+outcome_of d = Designs.outcome_of (λ l. l.n) (λ l. l.sum) tap_of d

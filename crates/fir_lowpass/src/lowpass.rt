@@ -3,6 +3,7 @@ ghost use Rattle.std.specs.Prelude.{◌≡◌, ◌<◌, ◌≤◌};
 ghost use Rattle.fir_lowpass.specs.Lowpass.{inside, count_taken, beta_taken, series_settle, usable, judgement_of, design_of, lowpass_with, lowpass_of, tap_of};
 ghost use Rattle.fir_lowpass.specs.Cached.{Caches, PreparesLowpass};
 
+use fir_design::Design;
 use fir_sinc::sum::total;
 use fir_sinc::tap::raw_tap;
 use fir_sinc::window::{Window, norm};
@@ -115,7 +116,13 @@ fn build(fc: f64, window: Window, i0: f64, n: u64, raws: &mut [f64]) -> Result<L
 // 16 a series at beta or at a tap that hasn't settled, where there are more taps than one; 10 a sum of the raw taps that
 // is 0 or not finite.
 // The first raw taps are left in `raws`, as many as it has places.
-pub fn prepare(cutoff: f64, rate: f64, window: Window, n: u64, raws: &mut [f64]) -> Result<Lowpass, Refusal>
+pub fn prepare(
+    cutoff: f64,
+    rate: f64,
+    window: Window,
+    n: u64,
+    raws: &mut [f64],
+) -> Result<Lowpass, Refusal>
     ensures { PreparesLowpass (lowpass_of cutoff rate window n) result raws.new }
 {
     judge(cutoff, rate, window, n)?;
@@ -137,20 +144,37 @@ pub fn prepare_with(
     build(cutoff / rate, window, i0, n, &mut *raws)
 }
 
+impl Design for Lowpass {
+    ghost count = { λ l. l.n };
+
+    ghost divisor = { λ l. l.sum };
+
+    ghost tap = { tap_of };
+
+    ghost keeps = { Caches };
+
+    fn count(self) -> u64 {
+        self.len()
+    }
+
+    fn divisor(self) -> f64 {
+        self.sum
+    }
+
+    fn tap(self, i: u64) -> f64 {
+        Lowpass::tap(self, i)
+    }
+
+    fn quotients(self, raws: &[f64]) -> usize {
+        fir_design::kept(self.n, raws)
+    }
+}
+
 // Tap i of a design where `raws` keeps its first raw taps, which are taken from there.
 pub fn cached_tap(lp: Lowpass, raws: &[f64], i: u64) -> f64
     ensures { Caches lp raws.now → result ≡ tap_of lp i }
 {
-    let n = lp.n;
-    let k = i as usize;
-    if k < raws.len() {
-        if i < n {
-            if n <= TAP_LIMIT {
-                return raws[k] / lp.sum;
-            }
-        }
-    }
-    lp.tap(i)
+    Design::cached_tap(lp, raws, i)
 }
 
 impl Lowpass {

@@ -2,7 +2,7 @@
 --   t = (k − (n − 1)/2)/sps,  x = 4 b t;  h(0) = (1 − b) + 4 b/π
 --   h(t) = b/√2 ((1 + 2/π) sin(π/(4 b)) + (1 − 2/π) cos(π/(4 b))) where |1 − x²| < 1e-9
 --   h(t) = (sin(π t (1 − b)) + x cos(π t (1 + b))) / (π t (1 − x²)) else;  tap k is h · 1/√(Σ h²)
-use Rattle.std.specs.Prelude.{ℕ, ◌+◌, ◌-◌, ◌*◌, Bool, cond, ◌&&◌, ◌==◌, nat_le, nat_lt, Float, Err, Ok, Result}
+use Rattle.std.specs.Prelude.{ℕ, ◌+◌, ◌-◌, ◌*◌, Bool, cond, ◌&&◌, nat_le, nat_lt, Float, Err, Ok, Result}
 use Rattle.std.specs.Float.{binary64}
 use Rattle.std.specs.Float.Ieee.{lt, le, eq}
 use Rattle.laws.specs.Binary64.{◌⊕◌, ◌⊖◌, ◌⊗◌, ◌⊘◌, whole, fraction, pi, sqrt2}
@@ -10,8 +10,8 @@ use Rattle.laws.specs.Sums.{sum_to}
 use Rattle.math_round.specs.Whole.{abs_of}
 use Rattle.math_sqrt.specs.Sqrt.{sqrt_of}
 use Rattle.math_trig.specs.Trig.{sin_of, cos_of}
-use Rattle.verdict.specs.declared.Refusal.TheVariants as Refusal
 use Rattle.verdict.specs.Outcome.{Outcome}
+use Rattle.fir_design.specs.Designs as Designs
 use Rattle.fir_rrc.specs.declared.design.Rrc.{Rrc}
 use Rattle.verdict.specs.declared.Refusal.{Refusal}
 use Rattle.verdict.specs.declared.Reason.TheVariants as Reason
@@ -77,10 +77,8 @@ tap_of d k = cond (nat_lt 16777216 d.n) (whole 0) (cond (nat_lt k d.n) (cond (na
 
 -- for a buffer of len elements
 abbrev pub fitted_of : Result Rrc Refusal → ℕ → Result Rrc Refusal
-fitted_of (Ok d) len = cond (d.n == len) (Ok d) (Err (Refusal.Length d.n len))
-fitted_of (Err why) len = Err why
+fitted_of d len = Designs.fitted_of (λ r. r.n) d len
 
 -- what comes of a ticket; its factor stands in the divisor's place
 abbrev pub outcome_of : Result Rrc Refusal → Outcome
-outcome_of (Ok d) = Outcome.Designed d.n d.norm (tap_of d)
-outcome_of (Err why) = Outcome.Refused why
+outcome_of d = Designs.outcome_of (λ r. r.n) (λ r. r.norm) tap_of d

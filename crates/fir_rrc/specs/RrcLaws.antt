@@ -1,6 +1,6 @@
 -- Each outcome of the judgement of a root-raised-cosine pulse, from what the tests said, and how few taps are taken.
 -- Assumes nothing.
-use Rattle.std.specs.Prelude.{◌≡◌, ℕ, ◌+◌, ◌*◌, ◌≤◌, Bool, true, false, cond, ◌≢◌, nat_le, refl, Float, Err, Ok, Result}
+use Rattle.std.specs.Prelude.{◌≡◌, ℕ, ◌+◌, ◌*◌, ◌≤◌, Bool, true, false, cond, nat_le, refl, Float, Err, Ok, Result}
 use Rattle.std.proofs.Common.{ap, ◌∙◌, le_trans, mul-le-mul_left, mul-le-mul_right, arith, leb-true}
 use Rattle.std.specs.Float.{binary64}
 use Rattle.laws.specs.Binary64.{◌⊗◌, ◌⊘◌, whole, fraction}
@@ -10,8 +10,9 @@ use Rattle.laws.specs.Results.{refused_never}
 use Rattle.math_sqrt.specs.Sqrt.{sqrt_of}
 use Rattle.verdict.specs.declared.Refusal.{Refusal}
 use Rattle.verdict.specs.declared.Refusal.TheVariants.{Range}
-use Rattle.fir_rrc.specs.Rrc.{sampled, spanned, rrc_len_of, unscaled_at, rolloff_taken, norm_of, rrc_in, rrc_of, fitted_of, outcome_of}
-use Rattle.verdict.specs.Counted.{Counted, where_equal}
+use Rattle.fir_rrc.specs.Rrc.{sampled, spanned, rrc_len_of, unscaled_at, rolloff_taken, norm_of, rrc_in, rrc_of, fitted_of, tap_of, outcome_of}
+use Rattle.verdict.specs.Counted.{Counted}
+use Rattle.fir_design.specs.DesignsLaws as Designs
 use Rattle.fir_rrc.specs.declared.design.Rrc.{Rrc}
 use Rattle.verdict.specs.declared.Reason.TheVariants as Reason
 
@@ -79,5 +80,4 @@ ready b sps n h k = ap (λ (z : Float). Ok (record { rolloff = b; sps = sps; n =
 
 -- ---- an accepted pulse has as many taps as its buffer has elements
 pub rrc_count : (d : Result Rrc Refusal) (len : ℕ) → Counted len (outcome_of (fitted_of d len))
-rrc_count (Ok r) len = where_equal outcome_of len _ _ r.n len (λ e. e) tt
-rrc_count (Err why) len = tt
+rrc_count d len = Designs.fitted_count (λ (r : Rrc). r.n) (λ (r : Rrc). r.norm) tap_of d len

@@ -5,6 +5,7 @@ ghost use Rattle.laws.specs.Binary64.{◌⊗◌};
 ghost use Rattle.laws.specs.Sums.{sum_to};
 ghost use Rattle.fir_rrc.specs.Rrc.{sampled, spanned, rrc_len_of, peak, corner, slope, pulse_at, unscaled_at, rolloff_taken, rrc_of, tap_of, fitted_of};
 
+use fir_design::Design;
 use math_numbers::{PI, TAP_LIMIT};
 use verdict::{Reason, Refusal};
 
@@ -176,13 +177,32 @@ impl Rrc {
     }
 }
 
+impl Design for Rrc {
+    ghost count = { λ d. d.n };
+
+    ghost divisor = { λ d. d.norm };
+
+    ghost tap = { tap_of };
+
+    // No raw tap is kept, and a tap is a product.
+    ghost keeps = { λ d rs. Unit {0} };
+
+    fn count(self) -> u64 {
+        self.len()
+    }
+
+    fn divisor(self) -> f64 {
+        self.norm
+    }
+
+    fn tap(self, i: u64) -> f64 {
+        Rrc::tap(self, i)
+    }
+}
+
 // The design for a buffer of `len` elements: refused as `Rrc::new`, then 8 where the taps are not `len`.
 pub fn fitted(rolloff: f64, sps: u64, span: u64, len: u64) -> Result<Rrc, Refusal>
     ensures { result ≡ fitted_of (rrc_of rolloff sps span) len }
 {
-    let d = Rrc::new(rolloff, sps, span)?;
-    if d.n != len {
-        return Err(Refusal::Length(d.n, len));
-    }
-    Ok(d)
+    fir_design::fitted(Rrc::new(rolloff, sps, span), len)
 }

@@ -5,4 +5,3 @@
 
 pub mod lowpasses;
 pub mod pulses;
-mod write;

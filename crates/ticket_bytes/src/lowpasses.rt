@@ -6,9 +6,9 @@ ghost use Rattle.fir_channelizer.specs.Channelizer.{channelizer_lowpass_of, fitt
 ghost use Rattle.wire.specs.Bytes.{float_bytes};
 ghost use Rattle.wire.specs.Writes.{Writes, whole_taps};
 
-use super::write::write_lowpass;
 use fir_sinc::window::Window;
 use fir_spec::DesignSpec;
+use ticket_taps::write;
 use verdict::{Refusal, Report};
 
 // Fills the buffer with the taps of a low-pass, eight bytes each, as many as it has room for. Refused first: 8 a length
@@ -28,7 +28,7 @@ pub fn put_lowpass(
         return Report::from(Refusal::Length(len - len % 8, len));
     }
     let designed = fir_lowpass::lowpass::prepare(cutoff, rate, window, len / 8, &mut *raws);
-    write_lowpass(designed, &*raws, &mut *out)
+    write(designed, &*raws, &mut *out)
 }
 
 // The same of a low-pass by its specification, whose own 8, a buffer for another number of taps, comes after its
@@ -41,7 +41,7 @@ pub fn put_spec(spec: DesignSpec, rate: f64, cap: u64, raws: &mut [f64], out: &m
         return Report::from(Refusal::Length(len - len % 8, len));
     }
     let designed = fir_spec::spec_prepare(spec, rate, cap, len / 8, &mut *raws);
-    write_lowpass(designed, &*raws, &mut *out)
+    write(designed, &*raws, &mut *out)
 }
 
 // The same of a channelizer's prototype, whose own 8 comes last.
@@ -69,5 +69,5 @@ pub fn put_prototype(
         len / 8,
         &mut *raws,
     );
-    write_lowpass(designed, &*raws, &mut *out)
+    write(designed, &*raws, &mut *out)
 }

@@ -6,7 +6,7 @@ ghost use Rattle.fir_rrc.specs.Rrc as Rrc;
 ghost use Rattle.wire.specs.Bytes.{float_bytes};
 ghost use Rattle.wire.specs.Writes.{Writes, whole_taps};
 
-use super::write::{write_gaussian, write_halfband, write_rrc};
+use ticket_taps::write;
 use verdict::{Refusal, Report};
 
 // Fills the buffer with the taps of a half-band, eight bytes each, as many as it has room for. Refused first: 8 a
@@ -20,7 +20,7 @@ pub fn put_halfband(beta: f64, raws: &mut [f64], out: &mut [u8]) -> Report
         return Report::from(Refusal::Length(len - len % 8, len));
     }
     let designed = fir_halfband::prepare(beta, len / 8, &mut *raws);
-    write_halfband(designed, &*raws, &mut *out)
+    write(designed, &*raws, &mut *out)
 }
 
 // The same of a Gaussian, whose own 8, a buffer for another number of taps, comes last.
@@ -32,7 +32,7 @@ pub fn put_gaussian(bt: f64, samples: u64, span: u64, raws: &mut [f64], out: &mu
         return Report::from(Refusal::Length(len - len % 8, len));
     }
     let designed = fir_gaussian::gaussian_design::fitted(bt, samples, span, len / 8, &mut *raws);
-    write_gaussian(designed, &*raws, &mut *out)
+    write(designed, &*raws, &mut *out)
 }
 
 // The same of a root-raised cosine, of which no raw tap is kept.
@@ -44,5 +44,5 @@ pub fn put_rrc(rolloff: f64, samples: u64, span: u64, out: &mut [u8]) -> Report
         return Report::from(Refusal::Length(len - len % 8, len));
     }
     let designed = fir_rrc::design::fitted(rolloff, samples, span, len / 8);
-    write_rrc(designed, &mut *out)
+    write(designed, &[0.0f64; 0], &mut *out)
 }

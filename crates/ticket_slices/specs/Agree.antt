@@ -80,3 +80,11 @@ module _ (beta : Float) (before : List Float) where
       go : (p : Outcome) → Agrees p (Outcome.Refused why) → Fills p before (Err why) before
       go (Outcome.Designed n s t) a = absurd a
       go (Outcome.Refused other) a = record { answer = ap Err (sym a); buffer = refl }
+
+  -- the same of what comes of the design of a ticket
+  pub as_at_once : {r : Result (Unit {0}) Refusal} {after : List Float} (g : Result HalfbandDesign Refusal) → g ≡ halfband_of beta (length before)
+      → Fills (outcome_of g) before r after → Fills (halfband_taps_of beta (length before)) before r after
+  as_at_once {r} {after} (Ok d) e f = subst (λ (z : Result (Unit {0}) Refusal). Fills (halfband_taps_of beta (length before)) before z after) (sym f.answer) (fills d after (sym e) f.buffer)
+  as_at_once {r} {after} (Err why) e f =
+      subst (λ (z : Result (Unit {0}) Refusal). Fills (halfband_taps_of beta (length before)) before z after) (sym f.answer)
+      (subst (λ (z : List Float). Fills (halfband_taps_of beta (length before)) before (Err why) z) (sym f.buffer) (leaves why (sym e)))

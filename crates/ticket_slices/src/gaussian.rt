@@ -3,6 +3,7 @@ ghost use Rattle.std.specs.Prelude.{length};
 ghost use Rattle.fir_gaussian.specs.Gaussian.{gaussian_of, fitted_of, outcome_of};
 ghost use Rattle.verdict.specs.Outcome.{Fills};
 
+use super::fill::finish;
 use fir_gaussian::gaussian_design::fitted;
 use verdict::Refusal;
 
@@ -11,11 +12,7 @@ use verdict::Refusal;
 pub fn gaussian(bt: f64, sps: u64, span: u64, taps: &mut [f64]) -> Result<(), Refusal>
     ensures { Fills (outcome_of (fitted_of (gaussian_of bt sps span) (length taps.old))) taps.old result taps.new }
 {
-    let n = taps.len();
     let mut none = [0.0f64; 0];
-    let g = fitted(bt, sps, span, n as u64, &mut none)?;
-    for i in 0..n {
-        taps[i] = g.tap(i as u64);
-    }
-    Ok(())
+    let designed = fitted(bt, sps, span, taps.len() as u64, &mut none);
+    finish(designed, &mut *taps)
 }

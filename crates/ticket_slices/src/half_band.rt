@@ -3,6 +3,7 @@ ghost use Rattle.std.specs.Prelude.{length};
 ghost use Rattle.verdict.specs.Outcome.{Fills};
 ghost use Rattle.fir_halfband.specs.Halfband.{halfband_taps_of};
 
+use super::fill::finish;
 use fir_halfband::HalfbandDesign;
 use verdict::Refusal;
 
@@ -11,10 +12,6 @@ use verdict::Refusal;
 pub fn halfband_taps(beta: f64, taps: &mut [f64]) -> Result<(), Refusal>
     ensures { Fills (halfband_taps_of beta (length taps.old)) taps.old result taps.new }
 {
-    let n = taps.len();
-    let d = HalfbandDesign::new(beta, n as u64)?;
-    for k in 0..n {
-        taps[k] = d.tap(k as u64);
-    }
-    Ok(())
+    let designed = HalfbandDesign::new(beta, taps.len() as u64);
+    finish(designed, &mut *taps)
 }

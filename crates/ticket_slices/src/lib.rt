@@ -2,6 +2,7 @@
 // half-band, a Gaussian, a root-raised cosine and the prototype of a channelizer. A refusal leaves the buffer as it came.
 #![tactic(auto)]
 
+mod fill;
 pub mod gaussian;
 pub mod half_band;
 pub mod low_pass;

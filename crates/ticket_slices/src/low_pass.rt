@@ -1,38 +1,21 @@
 // A low-pass into a buffer.
-ghost use Rattle.std.specs.Prelude.{◌≡◌, length};
+ghost use Rattle.std.specs.Prelude.{length};
 ghost use Rattle.verdict.specs.Outcome.{Fills};
-ghost use Rattle.fir_lowpass.specs.Lowpass.{lowpass_of, taps_of, outcome_of};
+ghost use Rattle.fir_lowpass.specs.Lowpass.{lowpass_of, outcome_of};
 
-use fir_lowpass::lowpass::{Lowpass, prepare};
+use super::fill::finish;
+use fir_lowpass::lowpass::prepare;
 use fir_sinc::window::Window;
 use verdict::Refusal;
 
-// Fills the buffer with a design's taps, as many as it has elements.
-fn fill(lp: Lowpass, taps: &mut [f64])
-    ensures { taps.new ≡ taps_of lp (length taps.old) }
-{
-    let n = taps.len();
-    for i in 0..n {
-        taps[i] = lp.tap(i as u64);
-    }
-}
-
-// Fills the buffer by a design, or leaves it.
-pub(crate) fn finish(designed: Result<Lowpass, Refusal>, taps: &mut [f64]) -> Result<(), Refusal>
-    ensures { Fills (outcome_of designed) taps.old result taps.new }
-{
-    match designed {
-        Ok(lp) => {
-            fill(lp, &mut *taps);
-            Ok(())
-        }
-        Err(why) => Err(why),
-    }
-}
-
 // The low-pass of as many taps as the buffer has elements; refused as `prepare`, with the buffer as it came. Example:
 // Hann, cutoff 0.25 at rate 1: one tap is 1, two are refused with 10.
-pub fn firwin_lowpass(cutoff: f64, rate: f64, window: Window, taps: &mut [f64]) -> Result<(), Refusal>
+pub fn firwin_lowpass(
+    cutoff: f64,
+    rate: f64,
+    window: Window,
+    taps: &mut [f64],
+) -> Result<(), Refusal>
     ensures { Fills (outcome_of (lowpass_of cutoff rate window (length taps.old))) taps.old result taps.new }
 {
     let mut none = [0.0f64; 1];

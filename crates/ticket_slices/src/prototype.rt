@@ -4,7 +4,7 @@ ghost use Rattle.verdict.specs.Outcome.{Fills};
 ghost use Rattle.fir_lowpass.specs.Lowpass.{outcome_of};
 ghost use Rattle.fir_channelizer.specs.Channelizer.{channelizer_lowpass_of, fitted_of};
 
-use super::low_pass::finish;
+use super::fill::finish;
 use fir_channelizer::fitted;
 use verdict::Refusal;
 

@@ -3,6 +3,7 @@ ghost use Rattle.std.specs.Prelude.{length};
 ghost use Rattle.verdict.specs.Outcome.{Fills};
 ghost use Rattle.fir_rrc.specs.Rrc.{rrc_of, fitted_of, outcome_of};
 
+use super::fill::finish;
 use fir_rrc::design::fitted;
 use verdict::Refusal;
 
@@ -11,10 +12,6 @@ use verdict::Refusal;
 pub fn rrc(rolloff: f64, sps: u64, span: u64, taps: &mut [f64]) -> Result<(), Refusal>
     ensures { Fills (outcome_of (fitted_of (rrc_of rolloff sps span) (length taps.old))) taps.old result taps.new }
 {
-    let n = taps.len();
-    let d = fitted(rolloff, sps, span, n as u64)?;
-    for k in 0..n {
-        taps[k] = d.tap(k as u64);
-    }
-    Ok(())
+    let designed = fitted(rolloff, sps, span, taps.len() as u64);
+    finish(designed, &mut *taps)
 }

@@ -4,7 +4,7 @@ ghost use Rattle.verdict.specs.Outcome.{Fills};
 ghost use Rattle.fir_lowpass.specs.Lowpass.{outcome_of};
 ghost use Rattle.fir_spec.specs.Spec.{spec_design_of};
 
-use super::low_pass::finish;
+use super::fill::finish;
 use fir_spec::{DesignSpec, spec_prepare};
 use verdict::Refusal;
 

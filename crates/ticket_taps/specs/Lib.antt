@@ -1,3 +1,2 @@
-pub mod Sources
 pub mod Fits
 pub mod FitsLaws

@@ -4,7 +4,7 @@ use Rattle.std.proofs.Common.{◌≡◌, ◌*◌, true, sym, ap, ◌∙◌, arit
 use lib.Ieee.{Float, of_bits, of_int}
 use Rattle.laws.specs.Binary64.{◌⊕◌, ◌⊗◌, ◌⊘◌, whole}
 use Rattle.fir_lowpass.specs.Lowpass.{where_passed, lowpass_of}
-use Rattle.fir_lowpass.proofs.LowpassLaws.{prepares_as, prepares_refusal}
+use Rattle.fir_design.specs.DesignsLaws.{prepares_as, prepares_refusal}
 use Rattle.fir_sinc.specs.declared.window.Window.TheVariants.{Kaiser}
 use Rattle.fir_channelizer.specs.Channelizer.{channels_taken, branch_taken, edges_of, channelizer_lowpass_of}
 use Rattle.fir_channelizer.specs.ChannelizerLaws.{prototype_of, product_most, by_edges, no_branch, no_channels}

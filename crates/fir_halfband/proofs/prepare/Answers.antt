@@ -6,14 +6,15 @@ use mathlib.Core.Bool.{true}
 use lib.Ieee.{of_bits, of_int, round}
 use Rattle.fir_lowpass.specs.Lowpass.{usable}
 use Rattle.fir_lowpass.specs.declared.lowpass.Lowpass.{Lowpass}
-use Rattle.fir_halfband.specs.Halfband.{length_taken, quarter_of, divisor_of}
-use Rattle.fir_halfband.specs.HalfbandLaws.{ready, no_divisor, no_lowpass, no_length, refuses, accepts}
+use Rattle.fir_halfband.specs.Halfband.{halfband_of, length_taken, quarter_of, divisor_of}
+use Rattle.fir_halfband.specs.HalfbandLaws.{ready, no_divisor, no_lowpass, no_length, accepts}
+use Rattle.fir_design.specs.DesignsLaws.{prepares_refusal}
 use Rattle.fir_halfband.proofs.prepare.Goals as goal
 
 pub returns-then-not-takes_length : goal.returns-then-not-takes_length
 returns-then-not-takes_length c =
     let a = c.args in
-    refuses a.beta a.n _ _ (no_length a.beta a.n (sym c.takes_length.ensures ∙ c.if-not-takes_length.true))
+    prepares_refusal (halfband_of a.beta a.n) _ _ (no_length a.beta a.n (sym c.takes_length.ensures ∙ c.if-not-takes_length.true))
 
 pub returns-then-not-is_usable : goal.returns-then-not-is_usable
 unfolding of_int of_bits round divisor_of
@@ -23,7 +24,7 @@ returns-then-not-is_usable c =
     let lowpass : Lowpass = c.in_ok-lp.lp in
     let divided : c.total-sum.result ≡ divisor_of lowpass c.args.n = c.total-sum.ensures (c.prepare.ensures.raws lowpass c.in_ok-lp.was) in
     let a = c.args in
-    refuses a.beta a.n _ _
+    prepares_refusal (halfband_of a.beta a.n) _ _
     (no_divisor a.beta a.n past lowpass (quarter ∙ c.in_ok-lp.was) (ap usable (sym divided) ∙ sym c.is_usable.ensures ∙ c.if-not-is_usable.true))
 
 pub returns : goal.returns
@@ -45,4 +46,4 @@ returns-in_err-lp c =
     let quarter : quarter_of c.args.beta c.args.n ≡ c.prepare.result = sym c.prepare.ensures.is in
     let a = c.args in
     let refused : c.from_residual.result ≡ Err c.in_err-lp.field-0.0 = search rules in
-    rw refused (refuses a.beta a.n c.in_err-lp.field-0.0 _ (no_lowpass a.beta a.n past c.in_err-lp.field-0.0 (quarter ∙ c.in_err-lp.was)))
+    rw refused (prepares_refusal (halfband_of a.beta a.n) c.in_err-lp.field-0.0 _ (no_lowpass a.beta a.n past c.in_err-lp.field-0.0 (quarter ∙ c.in_err-lp.was)))

@@ -6,7 +6,7 @@ use Rattle.laws.specs.Binary64.{whole}
 use Rattle.fir_sinc.specs.declared.window.Window.{Window}
 use Rattle.fir_sinc.specs.declared.window.Window.TheVariants.{Kaiser}
 use Rattle.fir_lowpass.specs.Lowpass.{lowpass_of}
-use Rattle.fir_lowpass.proofs.LowpassLaws.{prepares_as, prepares_refusal}
+use Rattle.fir_design.specs.DesignsLaws.{prepares_as, prepares_refusal}
 use Rattle.fir_retune.specs.Retune.{where_kaiser, new_beta_of}
 use Rattle.fir_retune.proofs.prepare_beta.Goals as goal
 use Rattle.verdict.specs.declared.Refusal.{Refusal}

@@ -2,7 +2,7 @@
 use Rattle.std.specs.Prelude.{Err}
 use Rattle.std.proofs.Common.{◌≡◌, sym, ap, ◌∙◌, rules}
 use borrow.Author.Tests.{eq-eqb, ne_eqb}
-use Rattle.fir_lowpass.proofs.LowpassLaws.{prepares_as, prepares_refusal}
+use Rattle.fir_design.specs.DesignsLaws.{prepares_as, prepares_refusal}
 use Rattle.fir_spec.specs.Spec.{design_in, spec_design_of}
 use Rattle.fir_spec.proofs.spec_prepare.Goals as goal
 

@@ -8,4 +8,4 @@ use Rattle.verdict.specs.declared.Refusal.{Refusal}
 use Rattle.fir_lowpass.specs.declared.lowpass.Lowpass.{Lowpass}
 
 pub returns : goal.returns
-returns c = c.told_lowpass.ensures ∙ ap (λ (d : Result Lowpass Refusal). outcome_report (outcome_of d)) c.new.ensures
+returns c = c.told.ensures ∙ ap (λ (d : Result Lowpass Refusal). outcome_report (outcome_of d)) c.new.ensures

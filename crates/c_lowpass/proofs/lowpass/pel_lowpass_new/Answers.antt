@@ -13,7 +13,7 @@ pub returns-in-Some : goal.returns-in-Some
 returns-in-Some c =
     let a = c.args in
     let known = sym c.in-Some.is ∙ c.window_of-coded.ensures in
-    c.told_lowpass.ensures ∙ ap (λ (d : Result Lowpass Refusal). outcome_report (outcome_of d)) c.new.ensures ∙ ap (λ (w : Option Window). outcome_report (outcome_of (lowpass_coded a.cutoff a.rate w a.taps))) known
+    c.told.ensures ∙ ap (λ (d : Result Lowpass Refusal). outcome_report (outcome_of d)) c.new.ensures ∙ ap (λ (w : Option Window). outcome_report (outcome_of (lowpass_coded a.cutoff a.rate w a.taps))) known
 
 pub returns-in-None : goal.returns-in-None
 returns-in-None c =

@@ -1,18 +1,11 @@
--- `c_pulses::pulse::pel_gaussian_new` meets its contract, a design and a refusal. Assumes nothing.
+-- `c_pulses::pulse::pel_gaussian_new` meets its contract. Assumes nothing.
 use Rattle.std.specs.Prelude.{Result}
-use mathlib.Core.Path.{sym, ap, ◌∙◌}
-use Rattle.verdict.specs.declared.Report.{Report}
+use mathlib.Core.Path.{ap, ◌∙◌}
+use Rattle.verdict.specs.declared.Refusal.{Refusal}
 use Rattle.verdict.specs.Reports.{outcome_report}
 use Rattle.fir_gaussian.specs.Gaussian.{outcome_of}
-use Rattle.c_pulses.proofs.pulse.pel_gaussian_new.Goals as goal
-use Rattle.verdict.specs.declared.Refusal.{Refusal}
 use Rattle.fir_gaussian.specs.declared.gaussian_design.Gaussian.{Gaussian}
+use Rattle.c_pulses.proofs.pulse.pel_gaussian_new.Goals as goal
 
-abbrev told : Result Gaussian Refusal → Report
-told d = outcome_report (outcome_of d)
-
-pub returns-in-Ok : goal.returns-in-Ok
-returns-in-Ok c = c.accepted.ensures ∙ ap told (sym c.in-Ok.is ∙ c.new-designed.ensures)
-
-pub returns-in-Err : goal.returns-in-Err
-returns-in-Err c = c.from.ensures ∙ ap told (sym c.in-Err.is ∙ c.new-designed.ensures)
+pub returns : goal.returns
+returns c = c.told.ensures ∙ ap (λ (d : Result Gaussian Refusal). outcome_report (outcome_of d)) c.new.ensures

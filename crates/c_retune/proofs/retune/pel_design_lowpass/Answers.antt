@@ -9,7 +9,7 @@ use Rattle.fir_sinc.specs.declared.window.Window.{Window}
 use Rattle.fir_lowpass.specs.Lowpass.{lowpass_of, outcome_of}
 use Rattle.fir_lowpass.proofs.LowpassLaws.{lowpass_count}
 use Rattle.wire.proofs.WritesLaws.{room}
-use Rattle.ticket_taps.specs.FitsLaws.{fits_lowpass}
+use Rattle.ticket_taps.specs.FitsLaws.{fits}
 use Rattle.c_retune.specs.Designs.{lowpass_in, lowpass_for}
 use Rattle.c_retune.specs.DesignsLaws.{left_so, tunes_as}
 use Rattle.c_retune.proofs.retune.pel_design_lowpass.Goals as goal
@@ -29,7 +29,7 @@ written-requires c =
     let len : ℕ = length c.args.out.now in
     let comes : Window → Result Lowpass Refusal = λ w. lowpass_of c.args.cutoff c.args.rate w (len / 8) in
     let w = c.in-Some.w in
-    fits_lowpass len c.prepare-designed.ensures (room len c.if-len-ne0.false (outcome_of (comes w)) (lowpass_count c.args.cutoff c.args.rate w (len / 8)))
+    fits len c.prepare-designed.ensures (room len c.if-len-ne0.false (outcome_of (comes w)) (lowpass_count c.args.cutoff c.args.rate w (len / 8)))
 
 pub returns-else-len-ne0 : goal.returns-else-len-ne0
 unfolding of_int of_bits lowpass_for

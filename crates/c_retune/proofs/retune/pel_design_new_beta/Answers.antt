@@ -9,7 +9,7 @@ use Rattle.verdict.specs.declared.Refusal.TheVariants.{Plain}
 use Rattle.fir_lowpass.specs.declared.lowpass.Lowpass.{Lowpass}
 use Rattle.fir_retune.specs.Retune.{new_beta_of}
 use Rattle.fir_retune.proofs.RetuneLaws.{beta_count}
-use Rattle.ticket_taps.specs.FitsLaws.{fits_lowpass}
+use Rattle.ticket_taps.specs.FitsLaws.{fits}
 use Rattle.c_retune.specs.Designs.{read_of, then_of, beta_for}
 use Rattle.c_retune.specs.DesignsLaws.{left_so, tunes_as, read_fits, fitting_room}
 use Rattle.c_retune.proofs.retune.pel_design_new_beta.Goals as goal
@@ -31,7 +31,7 @@ written-requires c =
     let turn : Lowpass → Result Lowpass Refusal = λ l. let a = c.args in new_beta_of l a.beta in
     let a = c.args in
     let l = c.in-Ok.lp in
-    fits_lowpass len c.prepare_beta-designed.ensures (fitting_room len l (turn l) (read_fits a.design len l (sym c.read-known.ensures ∙ c.in-Ok.is)) (beta_count l a.beta))
+    fits len c.prepare_beta-designed.ensures (fitting_room len l (turn l) (read_fits a.design len l (sym c.read-known.ensures ∙ c.in-Ok.is)) (beta_count l a.beta))
 
 pub returns-in-Ok : goal.returns-in-Ok
 unfolding beta_for

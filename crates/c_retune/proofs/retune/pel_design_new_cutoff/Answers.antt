@@ -6,7 +6,7 @@ use lib.ListN.{length}
 use Rattle.fir_lowpass.specs.declared.lowpass.Lowpass.{Lowpass}
 use Rattle.fir_retune.specs.Retune.{new_cutoff_of}
 use Rattle.fir_retune.proofs.RetuneLaws.{cutoff_count}
-use Rattle.ticket_taps.specs.FitsLaws.{fits_lowpass}
+use Rattle.ticket_taps.specs.FitsLaws.{fits}
 use Rattle.c_retune.specs.Designs.{then_of, cutoff_for}
 use Rattle.c_retune.specs.DesignsLaws.{left_so, tunes_as, read_fits, fitting_room}
 use Rattle.c_retune.proofs.retune.pel_design_new_cutoff.Goals as goal
@@ -18,7 +18,7 @@ written-requires c =
     let turn : Lowpass → Result Lowpass Refusal = λ l. let a = c.args in new_cutoff_of l a.cutoff a.rate in
     let a = c.args in
     let l = c.in-Ok.lp in
-    fits_lowpass len c.prepare_cutoff-designed.ensures (fitting_room len l (turn l) (read_fits a.design len l (sym c.read-known.ensures ∙ c.in-Ok.is)) (cutoff_count l a.cutoff a.rate))
+    fits len c.prepare_cutoff-designed.ensures (fitting_room len l (turn l) (read_fits a.design len l (sym c.read-known.ensures ∙ c.in-Ok.is)) (cutoff_count l a.cutoff a.rate))
 
 pub returns-in-Ok : goal.returns-in-Ok
 unfolding cutoff_for

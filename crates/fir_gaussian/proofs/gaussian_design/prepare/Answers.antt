@@ -3,21 +3,22 @@
 use Rattle.std.proofs.Common.{◌≡◌, ◌+◌, ◌-◌, ◌*◌, ◌/◌, ◌^◌, ◌≤◌, true, sym, ◌∙◌, le_trans, div-le_self, arith, lit≤, le→leb}
 use lib.Ieee.{of_bits, of_int, round, in_float}
 use Rattle.fir_gaussian.specs.Gaussian.{exponent, bt_taken, span_taken, samples_taken, gaussian_of}
-use Rattle.fir_gaussian.specs.GaussianLaws.{span_least, samples_most, product_most, ready, no_samples, no_span, no_bt, refuses, accepts}
+use Rattle.fir_gaussian.specs.GaussianLaws.{span_least, samples_most, product_most, ready, no_samples, no_span, no_bt, accepts}
+use Rattle.fir_design.specs.DesignsLaws.{prepares_refusal}
 use Rattle.fir_gaussian.proofs.gaussian_design.prepare.Goals as goal
 
 pub returns-then-not-takes_bt : goal.returns-then-not-takes_bt
 unfolding of_int of_bits round
 returns-then-not-takes_bt c =
     let a = c.args in
-    refuses (gaussian_of a.bt a.sps a.span) _ _ (no_bt a.bt a.sps a.span (sym c.takes_bt.ensures ∙ c.if-not-takes_bt.true))
+    prepares_refusal (gaussian_of a.bt a.sps a.span) _ _ (no_bt a.bt a.sps a.span (sym c.takes_bt.ensures ∙ c.if-not-takes_bt.true))
 
 pub returns-then-not-takes_span : goal.returns-then-not-takes_span
 unfolding of_int of_bits
 returns-then-not-takes_span c =
     let past1 : bt_taken c.args.bt ≡ true = sym c.takes_bt.ensures ∙ c.if-not-takes_bt.false in
     let a = c.args in
-    rw c.nearest_u64_to_f64.ensures (refuses (gaussian_of a.bt a.sps a.span) _ _ (no_span a.bt a.sps a.span past1 (sym c.takes_span.ensures ∙ c.if-not-takes_span.true)))
+    rw c.nearest_u64_to_f64.ensures (prepares_refusal (gaussian_of a.bt a.sps a.span) _ _ (no_span a.bt a.sps a.span past1 (sym c.takes_span.ensures ∙ c.if-not-takes_span.true)))
 
 pub nonzero_div-most : goal.nonzero_div-most
 nonzero_div-most c =
@@ -31,7 +32,7 @@ returns-then-not-takes_samples c =
     let past1 : bt_taken c.args.bt ≡ true = sym c.takes_bt.ensures ∙ c.if-not-takes_bt.false in
     let past2 : span_taken c.args.span ≡ true = sym c.takes_span.ensures ∙ c.if-not-takes_span.false in
     let a = c.args in
-    rw (c.nearest_u64_to_f64-then-not-takes_samples.ensures, c.nearest_u64_to_f64-then-not-takes_samples-2.ensures) (refuses (gaussian_of a.bt a.sps a.span) _ _ (no_samples a.bt a.sps a.span past1 past2 (sym c.takes_samples.ensures ∙ c.if-not-takes_samples.true)))
+    rw (c.nearest_u64_to_f64-then-not-takes_samples.ensures, c.nearest_u64_to_f64-then-not-takes_samples-2.ensures) (prepares_refusal (gaussian_of a.bt a.sps a.span) _ _ (no_samples a.bt a.sps a.span past1 past2 (sym c.takes_samples.ensures ∙ c.if-not-takes_samples.true)))
 
 pub overflow_mul-n : goal.overflow_mul-n
 overflow_mul-n c =

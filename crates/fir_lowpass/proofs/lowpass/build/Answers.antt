@@ -3,7 +3,8 @@ use mathlib.Core.Path.{◌≡◌, sym, ap, ◌∙◌}
 use Rattle.fir_cache.specs.Cached.{SumCached}
 use Rattle.fir_sinc.specs.Taps.{raw_at}
 use Rattle.fir_lowpass.specs.Lowpass.{divisor_of, usable}
-use Rattle.fir_lowpass.proofs.LowpassLaws.{no_divisor, accepts, prepares_refusal}
+use Rattle.fir_lowpass.proofs.LowpassLaws.{no_divisor, accepts}
+use Rattle.fir_design.specs.DesignsLaws.{prepares_refusal}
 use Rattle.fir_lowpass.proofs.lowpass.build.Goals as goal
 
 pub returns-then-not-is_usable : goal.returns-then-not-is_usable

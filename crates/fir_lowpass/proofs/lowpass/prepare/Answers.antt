@@ -6,7 +6,8 @@ use lib.Ieee.{Float}
 use Rattle.laws.specs.Binary64.{◌⊘◌}
 use Rattle.fir_sinc.specs.Windows.{norm_of}
 use Rattle.fir_lowpass.specs.Lowpass.{judgement_of, design_of, lowpass_of}
-use Rattle.fir_lowpass.proofs.LowpassLaws.{count_most, passed, builds, refuses, prepares_as, prepares_refusal}
+use Rattle.fir_lowpass.proofs.LowpassLaws.{count_most, passed, builds, refuses}
+use Rattle.fir_design.specs.DesignsLaws.{prepares_as, prepares_refusal}
 use Rattle.fir_lowpass.proofs.lowpass.prepare.Goals as goal
 
 pub build-requires : goal.build-requires

@@ -3,7 +3,8 @@ use Rattle.std.specs.Prelude.{Ok, Err}
 use Rattle.std.proofs.Common.{rules}
 use mathlib.Core.Path.{◌≡◌, sym, ◌∙◌}
 use Rattle.fir_lowpass.specs.Lowpass.{judgement_of}
-use Rattle.fir_lowpass.proofs.LowpassLaws.{count_most, passed, builds, refuses, prepares_as, prepares_refusal}
+use Rattle.fir_lowpass.proofs.LowpassLaws.{count_most, passed, builds, refuses}
+use Rattle.fir_design.specs.DesignsLaws.{prepares_as, prepares_refusal}
 use Rattle.fir_lowpass.proofs.lowpass.prepare_with.Goals as goal
 
 pub build-requires : goal.build-requires

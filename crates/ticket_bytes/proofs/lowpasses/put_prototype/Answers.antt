@@ -9,7 +9,7 @@ use Rattle.fir_lowpass.specs.Lowpass.{outcome_of}
 use Rattle.fir_channelizer.specs.Channelizer.{channelizer_lowpass_of, fitted_of}
 use Rattle.fir_channelizer.specs.ChannelizerLaws.{channelizer_count}
 use Rattle.wire.proofs.WritesLaws.{room, leaves_part, writes_whole}
-use Rattle.ticket_taps.specs.FitsLaws.{fits_lowpass}
+use Rattle.ticket_taps.specs.FitsLaws.{fits}
 use Rattle.ticket_bytes.proofs.lowpasses.put_prototype.Goals as goal
 use Rattle.verdict.specs.declared.Refusal.{Refusal}
 use Rattle.fir_lowpass.specs.declared.lowpass.Lowpass.{Lowpass}
@@ -21,16 +21,9 @@ returns-then-len-ne0 c =
     let outcome : Outcome = outcome_of (fitted_of design (len / 8)) in
     leaves_part 8 len outcome c.if-len-ne0.true c.from.ensures
 
-pub write_lowpass-requires : goal.write_lowpass-requires
-write_lowpass-requires c =
-    let len : ℕ = length c.args.out.now in
-    let design : Result Lowpass Refusal = let a = c.args in channelizer_lowpass_of a.channels a.branch a.passband a.stopband a.attenuation in
-    let outcome : Outcome = outcome_of (fitted_of design (len / 8)) in
-    fits_lowpass len c.fitted-designed.ensures (room len c.if-len-ne0.false outcome (channelizer_count design (len / 8)))
-
 pub returns : goal.returns
 returns c =
     let len : ℕ = length c.args.out.now in
     let design : Result Lowpass Refusal = let a = c.args in channelizer_lowpass_of a.channels a.branch a.passband a.stopband a.attenuation in
     let outcome : Outcome = outcome_of (fitted_of design (len / 8)) in
-    writes_whole 8 len outcome c.if-len-ne0.false (ap outcome_of c.fitted-designed.ensures.is) c.write_lowpass.ensures
+    writes_whole 8 len outcome c.if-len-ne0.false (ap outcome_of c.fitted-designed.ensures.is) (c.write.ensures (fits len c.fitted-designed.ensures (room len c.if-len-ne0.false outcome (channelizer_count design (len / 8)))))

@@ -8,7 +8,7 @@ use Rattle.fir_lowpass.specs.Lowpass.{outcome_of}
 use Rattle.fir_spec.specs.Spec.{spec_design_of}
 use Rattle.fir_spec.specs.SpecLaws.{spec_count}
 use Rattle.wire.proofs.WritesLaws.{room, leaves_part, writes_whole}
-use Rattle.ticket_taps.specs.FitsLaws.{fits_lowpass}
+use Rattle.ticket_taps.specs.FitsLaws.{fits}
 use Rattle.ticket_bytes.proofs.lowpasses.put_spec.Goals as goal
 
 pub returns-then-len-ne0 : goal.returns-then-len-ne0
@@ -17,14 +17,8 @@ returns-then-len-ne0 c =
     let outcome : Outcome = outcome_of (spec_design_of c.args.spec c.args.rate c.args.cap (len / 8)) in
     leaves_part 8 len outcome c.if-len-ne0.true c.from.ensures
 
-pub write_lowpass-requires : goal.write_lowpass-requires
-write_lowpass-requires c =
-    let len : ℕ = length c.args.out.now in
-    let outcome : Outcome = outcome_of (spec_design_of c.args.spec c.args.rate c.args.cap (len / 8)) in
-    fits_lowpass len c.spec_prepare-designed.ensures (room len c.if-len-ne0.false outcome (spec_count c.args.spec c.args.rate c.args.cap (len / 8)))
-
 pub returns : goal.returns
 returns c =
     let len : ℕ = length c.args.out.now in
     let outcome : Outcome = outcome_of (spec_design_of c.args.spec c.args.rate c.args.cap (len / 8)) in
-    writes_whole 8 len outcome c.if-len-ne0.false (ap outcome_of c.spec_prepare-designed.ensures.is) c.write_lowpass.ensures
+    writes_whole 8 len outcome c.if-len-ne0.false (ap outcome_of c.spec_prepare-designed.ensures.is) (c.write.ensures (fits len c.spec_prepare-designed.ensures (room len c.if-len-ne0.false outcome (spec_count c.args.spec c.args.rate c.args.cap (len / 8)))))

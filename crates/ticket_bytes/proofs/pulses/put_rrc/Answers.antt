@@ -1,13 +1,13 @@
 -- `ticket_bytes::pulses::put_rrc` meets its contract: the length, and then what `fitted` answers. Assumes nothing.
 use Rattle.std.specs.Prelude.{Result}
-use mathlib.Core.Path.{ap, sym, subst}
+use mathlib.Core.Path.{ap}
 use Prim.Native.Nat.{ℕ, ◌/◌}
 use lib.ListN.{length}
 use Rattle.verdict.specs.Outcome.{Outcome}
 use Rattle.fir_rrc.specs.Rrc.{rrc_of, fitted_of, outcome_of}
 use Rattle.fir_rrc.specs.RrcLaws.{rrc_count}
 use Rattle.wire.proofs.WritesLaws.{room, leaves_part, writes_whole}
-use Rattle.wire.specs.Writes.{Room}
+use Rattle.ticket_taps.specs.FitsLaws.{fits}
 use Rattle.ticket_bytes.proofs.pulses.put_rrc.Goals as goal
 use Rattle.verdict.specs.declared.Refusal.{Refusal}
 use Rattle.fir_rrc.specs.declared.design.Rrc.{Rrc}
@@ -19,16 +19,9 @@ returns-then-len-ne0 c =
     let outcome : Outcome = outcome_of (fitted_of design (len / 8)) in
     leaves_part 8 len outcome c.if-len-ne0.true c.from.ensures
 
-pub write_rrc-requires : goal.write_rrc-requires
-write_rrc-requires c =
-    let len : ℕ = length c.args.out.now in
-    let design : Result Rrc Refusal = let a = c.args in rrc_of a.rolloff a.samples a.span in
-    let outcome : Outcome = outcome_of (fitted_of design (len / 8)) in
-    subst (λ (d : Result Rrc Refusal). Room len (outcome_of d)) (sym c.fitted-designed.ensures) (room len c.if-len-ne0.false outcome (rrc_count design (len / 8)))
-
 pub returns : goal.returns
 returns c =
     let len : ℕ = length c.args.out.now in
     let design : Result Rrc Refusal = let a = c.args in rrc_of a.rolloff a.samples a.span in
     let outcome : Outcome = outcome_of (fitted_of design (len / 8)) in
-    writes_whole 8 len outcome c.if-len-ne0.false (ap outcome_of c.fitted-designed.ensures) c.write_rrc.ensures
+    writes_whole 8 len outcome c.if-len-ne0.false (ap outcome_of c.fitted-designed.ensures) (c.write.ensures (fits len (record { is = c.fitted-designed.ensures; raws = λ d e. tt }) (room len c.if-len-ne0.false outcome (rrc_count design (len / 8)))))

@@ -1,2 +1,0 @@
--- Laws that several proofs of this crate cite, and no other crate.
-mod FitsLaws
