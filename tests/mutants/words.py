@@ -106,9 +106,10 @@ class Source:
                 of_trait = "for" in words[k:end]
                 method_of = (impl_name(words[k + 1 : end]), self.closing(end), of_trait, words[k + 1] not in own)
             elif words[k] == "trait":
-                # promises alone, and the code in its impls; nobody else can call those of a trait that isn't public
+                # promises, and the code that an impl may leave out; nobody else can call those of a trait that isn't public
                 own.update([words[k + 1]] if words[k - 1] != "pub" else [])
-                end = self.closing(words.index("{", k))
+                end = words.index("{", k)
+                method_of = (words[k + 1], self.closing(end), True, words[k + 1] not in own)
             elif words[k] == "fn":
                 record, last, *told = method_of
                 end = self.read_function(k, record, *told) if k < last else self.read_function(k, None, False, False)
