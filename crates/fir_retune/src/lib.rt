@@ -13,7 +13,12 @@ use verdict::{Reason, Refusal};
 // The design with a new cutoff, given with its rate. The series at beta is the one that the record keeps. Refused as a
 // low-pass: 1, 2, 6, 4, 16, 10.
 // The first raw taps are left in `raws`, as many as it has places.
-pub fn prepare_cutoff(lp: Lowpass, cutoff: f64, rate: f64, raws: &mut [f64]) -> Result<Lowpass, Refusal>
+pub fn prepare_cutoff(
+    lp: Lowpass,
+    cutoff: f64,
+    rate: f64,
+    raws: &mut [f64],
+) -> Result<Lowpass, Refusal>
     ensures { PreparesLowpass (new_cutoff_of lp cutoff rate) result raws.new }
 {
     let w = lp.window;

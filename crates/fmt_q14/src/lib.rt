@@ -34,11 +34,7 @@ fn number(i: u64, x: f64, v: f64) -> Result<i16, Refusal>
     ensures { result ≡ q14_tap_of i x }
 {
     if v >= -32768.0 && v <= 32767.0 {
-        if v == 0.0 {
-            Ok(0)
-        } else {
-            Ok(v as i16)
-        }
+        if v == 0.0 { Ok(0) } else { Ok(v as i16) }
     } else {
         Err(Refusal::Element(i, -2.0, MOST, x))
     }

@@ -52,7 +52,13 @@ fn put_section(sos: &mut [f64], at: usize, coefs: [f64; 5])
 // Whether a filter is taken, for a buffer of `len` elements. Refused, in this order: 7 a response that is neither
 // low-pass nor high-pass; 6 an order below 2 or above 8; 8 where the buffer hasn't five elements a section; 2 with 0,
 // rate/2, cutoff as `biquad_coefs`. 5 can't come: every quality is finite and positive.
-pub fn judge(response: Response, order: u64, cutoff: f64, rate: f64, len: u64) -> Result<(), Refusal>
+pub fn judge(
+    response: Response,
+    order: u64,
+    cutoff: f64,
+    rate: f64,
+    len: u64,
+) -> Result<(), Refusal>
     ensures { result ≡ answered (butterworth_of response order cutoff rate len) }
 {
     if !takes_response(response) {

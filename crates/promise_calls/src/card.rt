@@ -46,10 +46,7 @@ pub fn ticket_q15(ticket: Numbers, taps: &mut [u8], out: &mut [u8]) -> Filter
 {
     let design = c_card::tickets::pel_design_ticket(ticket, &mut *taps);
     let conversion = pel_to_q15(&*taps, &mut *out);
-    Filter {
-        design,
-        conversion,
-    }
+    Filter { design, conversion }
 }
 
 // A ticket goes from the reader to the designer as it was read.

@@ -49,8 +49,5 @@ pub fn lowpass_cosines_q15(
 {
     let design = c_lowpass::cosines::pel_lowpass_cosines(cutoff, rate, window, &mut *taps);
     let conversion = pel_to_q15(&*taps, &mut *out);
-    Filter {
-        design,
-        conversion,
-    }
+    Filter { design, conversion }
 }

@@ -24,10 +24,7 @@ pub fn lowpass_q15(
 {
     let design = c_lowpass::lowpass::pel_lowpass(cutoff, rate, window, beta, &mut *taps);
     let conversion = pel_to_q15(&*taps, &mut *out);
-    Filter {
-        design,
-        conversion,
-    }
+    Filter { design, conversion }
 }
 
 pub fn spec_q15(
@@ -50,10 +47,7 @@ pub fn spec_q15(
         &mut *taps,
     );
     let conversion = pel_to_q15(&*taps, &mut *out);
-    Filter {
-        design,
-        conversion,
-    }
+    Filter { design, conversion }
 }
 
 pub fn channelizer_q15(
@@ -76,10 +70,7 @@ pub fn channelizer_q15(
         &mut *taps,
     );
     let conversion = pel_to_q15(&*taps, &mut *out);
-    Filter {
-        design,
-        conversion,
-    }
+    Filter { design, conversion }
 }
 
 pub fn halfband_q15(beta: f64, taps: &mut [u8], out: &mut [u8]) -> Filter
@@ -87,10 +78,7 @@ pub fn halfband_q15(beta: f64, taps: &mut [u8], out: &mut [u8]) -> Filter
 {
     let design = c_pulses::halfbands::pel_halfband(beta, &mut *taps);
     let conversion = pel_to_q15(&*taps, &mut *out);
-    Filter {
-        design,
-        conversion,
-    }
+    Filter { design, conversion }
 }
 
 pub fn gaussian_q15(bt: f64, samples: u64, span: u64, taps: &mut [u8], out: &mut [u8]) -> Filter
@@ -98,8 +86,5 @@ pub fn gaussian_q15(bt: f64, samples: u64, span: u64, taps: &mut [u8], out: &mut
 {
     let design = c_pulses::pulse::pel_gaussian(bt, samples, span, &mut *taps);
     let conversion = pel_to_q15(&*taps, &mut *out);
-    Filter {
-        design,
-        conversion,
-    }
+    Filter { design, conversion }
 }

@@ -11,7 +11,12 @@ use fir_sinc::window::Window;
 use fir_spec::DesignSpec;
 use verdict::Refusal;
 
-pub fn lowpass_slice(cutoff: f64, rate: f64, window: Window, taps: &mut [f64]) -> Result<(), Refusal>
+pub fn lowpass_slice(
+    cutoff: f64,
+    rate: f64,
+    window: Window,
+    taps: &mut [f64],
+) -> Result<(), Refusal>
     ensures { SliceTotals (Lowpass.outcome_of (Lowpass.lowpass_of cutoff rate window (length taps.old))) result taps.new }
 {
     ticket_slices::low_pass::firwin_lowpass(cutoff, rate, window, &mut *taps)

@@ -44,10 +44,7 @@ pub fn read_as_written(
         &mut *out,
     );
     let found = c_card::reading::pel_read_ticket(&*out);
-    BothWays {
-        written,
-        found,
-    }
+    BothWays { written, found }
 }
 
 // Any record is written back from what was read of it.
@@ -56,8 +53,5 @@ pub fn write_as_read(src: &[u8], out: &mut [u8]) -> BothWays
 {
     let found = c_card::reading::pel_read_ticket(src);
     let written = c_card::writing::pel_write_ticket(found.ticket, &mut *out);
-    BothWays {
-        written,
-        found,
-    }
+    BothWays { written, found }
 }
