@@ -1,8 +1,8 @@
 -- Each outcome of the judgement of a channelizer's prototype, from what the tests said, and what an accepted ticket
 -- tells. Assumes nothing.
-use Rattle.std.specs.Prelude.{◌≡◌, ℕ, ◌+◌, ◌-◌, ◌*◌, ◌/◌, ◌%◌, ◌<◌, ◌≤◌, Bool, true, false, cond, ◌||◌, ◌==◌, ◌≢◌, nat_eq, nat_le, Float, Err, Ok, Result}
+use Rattle.std.specs.Prelude.{◌≡◌, ℕ, ◌+◌, ◌-◌, ◌*◌, ◌/◌, ◌%◌, ◌<◌, ◌≤◌, Bool, true, false, cond, ◌||◌, List, ◌==◌, ◌≢◌, nat_eq, nat_le, Float, Err, Ok, Result}
 use Rattle.std.proofs.Math.Path.{refl}
-use Rattle.std.proofs.Common.{sym, ap, ◌∙◌, true≢false, le_trans, mul-le-mul_left, mul-le-mul_right, div-add-mod', mod-lt, arith, leb-true, eqb-true, lit≤}
+use Rattle.std.proofs.Common.{sym, ap, ◌∙◌, true≢false, le_trans, mul-le-mul_left, mul-le-mul_right, div-add-mod', mod-lt, arith, leb-true, eqb-true, eq-eqb, lit≤}
 use Rattle.std.proofs.Math.Arith.{digits_div}
 use Rattle.laws.specs.Binary64.{◌⊕◌, ◌⊖◌, ◌⊗◌, ◌⊘◌, whole}
 use Rattle.laws.specs.Floor.{upward}
@@ -11,6 +11,7 @@ use Rattle.laws.specs.Results.{refused_never}
 use Rattle.verdict.specs.declared.Refusal.{Refusal}
 use Rattle.fir_length.specs.Kaiser.{beta_of, estimate}
 use Rattle.fir_lowpass.specs.Lowpass.{where_passed, lowpass_of, tap_of, outcome_of}
+use Rattle.fir_lowpass.specs.Cached.{PreparesLowpass}
 use Rattle.fir_sinc.specs.declared.window.Window.TheVariants.{Kaiser}
 use Rattle.fir_lowpass.specs.declared.lowpass.Lowpass.{Lowpass}
 use Rattle.fir_channelizer.specs.Channelizer.{channels_taken, branch_taken, edges_of, taps_in, channelizer_taps_of, channelizer_lowpass_of, fitted_of}
@@ -106,6 +107,11 @@ module _ (n m : ℕ) (h : 4 ≤ m) where
       let d = div-add-mod' n m in
       let k = mul-le-mul_left (n / m) h in
       omega arith
+
+-- ---- for a buffer of len elements
+pub fits_as : {d r : Result Lowpass Refusal} {rs : List Float} {l : Lowpass} {len : ℕ} → r ≡ Ok l → l.n ≡ len → PreparesLowpass d r rs → PreparesLowpass (fitted_of d len) (Ok l) rs
+fits_as {l = l} {len} e h f =
+    Designs.prepares_fitted (λ (l : Lowpass). l.n) len f (sym (ap (λ (z : Result Lowpass Refusal). fitted_of z len) e ∙ rw (eq-eqb l.n len h)))
 
 -- ---- what an accepted ticket tells
 pub accepted : (m l : ℕ) (passband stopband a : Float) (d : Lowpass) → channelizer_lowpass_of m l passband stopband a ≡ Ok d → lowpass_of ((passband ⊕ stopband) ⊘ (whole 2 ⊗ whole m)) (whole 1) (Kaiser (beta_of a)) (m * l) ≡ Ok d

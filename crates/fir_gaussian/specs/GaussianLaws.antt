@@ -87,6 +87,10 @@ accepts bt sps n s rs d h t =
       raws = λ g e. subst (λ (z : Gaussian). Caches z rs) (same_answer e) t.keeps;
     }
 
+-- a design that was prepared, by another name
+pub keeps_as : (d e : Result Gaussian Refusal) (g : Gaussian) {r : Result Gaussian Refusal} {rs : List Float} → PreparesGaussian d r rs → r ≡ Ok g → e ≡ Ok g → PreparesGaussian e (Ok g) rs
+keeps_as d e g {r} p h k = record { is = sym k; raws = λ x q. p.raws x (h ∙ q) }
+
 -- a tap from a raw tap that was kept
 pub cached_is : (g : Gaussian) (rs : List Float) (i : ℕ) → g.n ≤ 16777216 → i < g.n → i < length rs → Caches g rs → slice_index_or rs i nan ⊘ g.sum ≡ tap_of g i
 unfolding tap_of

@@ -1,7 +1,12 @@
 pub mod Sqrt
 pub mod WholeRoot
+pub mod Digits
 pub mod Middles
 pub mod Patterns
+pub mod Rounded
+pub mod Square
+pub mod Settled
 pub mod Nearest
+pub mod Scaling
 pub mod Worked
 pub mod Laws

@@ -1,9 +1,9 @@
 -- What the reduction of an argument rests on: the number of quarter turns is a whole number of a size far below 2 ^ 50.
 -- Assumes nothing.
-use Rattle.std.specs.Prelude.{◌≡◌, refl, ℕ, ◌*◌, ◌^◌, ◌≤◌, Bool, true, false, T, nat_abs, Float}
-use Rattle.std.proofs.Common.{sym, ap, ◌∙◌, le_trans, lit≤}
+use Rattle.std.specs.Prelude.{◌≡◌, refl, ℕ, zero, suc, ◌*◌, ◌^◌, ◌≤◌, ◌<◌, Bool, true, false, T, nat_abs, Float}
+use Rattle.std.proofs.Common.{sym, ap, ◌∙◌, le_trans, arith, lit≤}
 use Rattle.std.specs.Float.{nan, inf, fin, binary64}
-use Rattle.std.specs.Float.Ieee.{of_bits, of_int, up, down, div, round, le}
+use Rattle.std.specs.Float.Ieee.{of_bits, of_int, up, down, neg, div, round, le}
 use Rattle.std.specs.Float.Ieee.Back.{round_whole}
 use Rattle.std.specs.Float.Ieee.Exact.{HasValue}
 use Rattle.laws.specs.AtMost.{AtMost, at_most_finite, of_le, mul_at_most, add_at_most, floor_at_most}
@@ -75,6 +75,19 @@ sin_at x q r t e h = at_same sine_in x q r e h ∙ sym (rw t)
 pub cos_at : (x : Float) (q : ℕ) (r : Float) → le (abs_of x) limit ≡ true → q ≡ quadrant x → r ≡ rest x → At cosine_in q r ≡ cos_of x
 unfolding cos_of
 cos_at x q r t e h = at_same cosine_in x q r e h ∙ sym (rw t)
+
+-- the last arm of each table
+last : (q : ℕ) → 2 < q → (n : ℕ) × (q ≡ suc (suc (suc n)))
+last zero h = absurd (omega arith)
+last (suc zero) h = absurd (omega arith)
+last (suc (suc zero)) h = absurd (omega arith)
+last (suc (suc (suc n))) h = (n, refl)
+
+pub sine_last : (q : ℕ) (r : Float) → 2 < q → neg (cosine_series r) ≡ At sine_in q r
+sine_last q r h = ap (λ (z : ℕ). At sine_in z r) (sym (last q h).1)
+
+pub cosine_last : (q : ℕ) (r : Float) → 2 < q → sine_series r ≡ At cosine_in q r
+cosine_last q r h = ap (λ (z : ℕ). At cosine_in z r) (sym (last q h).1)
 
 -- ---- and outside
 pub sin_outside : (x : Float) → le (abs_of x) limit ≡ false → nan ≡ sin_of x

@@ -57,6 +57,29 @@ module _ (k : ℕ) (p n : List Float) (a b : ℕ) (P : All (Rest binary64) p) (N
   unfolding run
   ahead_yes l e = sym (decided_yes digit_of rest_of (2 ^ 50) (lit≤ tt) (Rest binary64) (λ x r. (cut_f64 x r.size).small) (λ x r. cut_rest x r.size) k p n a b P N l (omega arith))
 
+-- what stands with k turns to go, of 21
+pub record Going (p₀ n₀ : List Float) (a₀ b₀ k : ℕ) (p n : List Float) (a b : ℕ) : Type 0 where
+  pub ps : All (Rest binary64) p
+  pub ns : All (Rest binary64) n
+  pub same : run k p n a b ≡ run 21 p₀ n₀ a₀ b₀
+
+pub going_sizes : {p₀ n₀ : List Float} {a₀ b₀ k : ℕ} {p n : List Float} {a b : ℕ} → Going p₀ n₀ a₀ b₀ k p n a b → All (Size binary64) p × All (Size binary64) n
+going_sizes {p = p} {n = n} h = (sizes_of p h.ps, sizes_of n h.ns)
+
+pub going : {p₀ n₀ : List Float} {a₀ b₀ k : ℕ} {p n : List Float} {a b : ℕ} {p' n' : List Float} {a' b' : ℕ} → Going p₀ n₀ a₀ b₀ k p n a b → 1 ≤ k → p' ≡ each_of rest_of p → n' ≡ each_of rest_of n
+    → a' ≡ min (a - b) 6 * 1125899906842624 + sum_of digit_of p → b' ≡ min (b - a) 6 * 1125899906842624 + sum_of digit_of n → Going p₀ n₀ a₀ b₀ (k - 1) p' n' a' b'
+going {p₀} {n₀} {a₀} {b₀} {k} {p} {n} {a} {b} {p'} {n'} {a'} {b'} h l e e' g g' = record { ps = rests_of p p' (sizes_of p h.ps) e; ns = rests_of n n' (sizes_of n h.ns) e'; same = run_turn k p n p' n' a b a' b' l e e' g g' ∙ h.same }
+
+pub going_end : {p₀ n₀ : List Float} {a₀ b₀ k : ℕ} {p n : List Float} {a b : ℕ} → Going p₀ n₀ a₀ b₀ k p n a b → k ≡ 0 → nat_le a b ≡ run 21 p₀ n₀ a₀ b₀
+unfolding run run_of
+going_end {k = k} {p} {n} {a} {b} h e = sym (ap (λ (v : ℕ). run v p n a b) e) ∙ h.same
+
+pub going_no : {p₀ n₀ : List Float} {a₀ b₀ k : ℕ} {p n : List Float} {a b : ℕ} → Going p₀ n₀ a₀ b₀ k p n a b → length n ≤ 5 → (d : ℕ) → d ≡ min (a - b) 6 → d ≡ 6 → false ≡ run 21 p₀ n₀ a₀ b₀
+going_no {k = k} {p} {n} {a} {b} h l d e g = ahead_no k p n a b h.ps h.ns l (sym e ∙ g) ∙ h.same
+
+pub going_yes : {p₀ n₀ : List Float} {a₀ b₀ k : ℕ} {p n : List Float} {a b : ℕ} → Going p₀ n₀ a₀ b₀ k p n a b → length p ≤ 5 → (d : ℕ) → d ≡ min (b - a) 6 → d ≡ 6 → true ≡ run 21 p₀ n₀ a₀ b₀
+going_yes {k = k} {p} {n} {a} {b} h l d e g = ahead_yes k p n a b h.ps h.ns l (sym e ∙ g) ∙ h.same
+
 -- ---- the comparison
 ends_all : (p : List Float) → All (λ x. Ends (2 ^ 1074) (2 ^ 50) 22 (mag binary64 x)) p
 unfolding pw
@@ -150,3 +173,6 @@ all_held (x ∷ xs) f e = let b = both (within x) (all_within xs) e in (record {
 module _ (cs : List Float) {p n : List Float} (H : All Held cs) (e : p ≡ each_of pos_of cs) (g : n ≡ each_of neg_of cs) where
   pub both_sizes : All (Size binary64) p × All (Size binary64) n
   both_sizes = (subst (All (Size binary64)) (sym e) (pos_sizes cs H), subst (All (Size binary64)) (sym g) (neg_sizes cs H))
+
+  pub near_by : (r : Bool) → length cs ≤ 5 → all_within cs ≡ true → r ≡ near_run p n → r ≡ (all_within cs && near_one cs)
+  near_by r l t h = h ∙ rw (e, g, t) (near_law cs H l)

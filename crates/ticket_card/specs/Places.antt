@@ -2,6 +2,8 @@
 use Rattle.std.specs.Prelude.{◌≡◌, refl, List, [], ◌∷◌, ℕ, zero, suc, ◌+◌, ◌*◌, ◌≤◌, ◌<◌, length, take, drop, get_or}
 use Rattle.std.proofs.Common.{sym, ap, ◌∙◌, not-suc-le-zero, arith, drop-drop, drop-cons}
 use Rattle.wire.specs.Bytes.{number_of, joined_four}
+use Rattle.ticket_kinds.specs.Kinds.{numbers_in}
+use Rattle.ticket_kinds.specs.declared.numbers.Numbers.{Numbers}
 use Rattle.ticket_card.specs.Card.{fields_in, kind_in}
 
 none : (d : List ℕ) → number_of (take 0 d) ≡ 0
@@ -32,6 +34,20 @@ field_at (suc n) (suc i) d h = field_at n i (drop 8 d) (omega arith) ∙ ap (λ 
 field_place : (n i : ℕ) (d : List ℕ) → i < n → eight_at d (6 + 8 * i) ≡ get_or (fields_in n (drop 6 d)) i 0
 field_place n i d h = ap (λ (l : List ℕ). number_of (take 8 l)) (sym (drop-drop (8 * i) 6 d)) ∙ sym (field_at n i (drop 6 d) h)
 
--- a number that was read at the place of field i is that field
-pub present : (n : ℕ) (d : List ℕ) (i : ℕ) {x : ℕ} → x ≡ eight_at d (6 + 8 * i) → i < n → x ≡ get_or (fields_in n (drop 6 d)) i 0
-present n d i e h = e ∙ field_place n i d h
+-- there are no more than n
+past_fields : (n i : ℕ) (d : List ℕ) → n ≤ i → 0 ≡ get_or (fields_in n d) i 0
+unfolding fields_in
+past_fields zero i d h = refl
+past_fields (suc n) zero d h = absurd (not-suc-le-zero h)
+past_fields (suc n) (suc i) d h = past_fields n i (drop 8 d) (omega arith)
+
+-- the numbers of n fields, as they are read: those that are there, and 0 past them
+module _ (n : ℕ) (d : List ℕ) where
+  pub present : (i : ℕ) {x : ℕ} → x ≡ eight_at d (6 + 8 * i) → i < n → x ≡ get_or (fields_in n (drop 6 d)) i 0
+  present i e h = e ∙ field_place n i d h
+
+  pub absent : (i : ℕ) → n ≤ i → 0 ≡ get_or (fields_in n (drop 6 d)) i 0
+  absent i h = past_fields n i (drop 6 d) h
+
+  pub numbers_are : (k : ℕ) {a b c e f : ℕ} → a ≡ get_or (fields_in n (drop 6 d)) 0 0 → b ≡ get_or (fields_in n (drop 6 d)) 1 0 → c ≡ get_or (fields_in n (drop 6 d)) 2 0 → e ≡ get_or (fields_in n (drop 6 d)) 3 0 → f ≡ get_or (fields_in n (drop 6 d)) 4 0 → ◌≡◌ {A = Numbers} (record { kind = k; first = a; second = b; third = c; fourth = e; fifth = f }) (numbers_in k (fields_in n (drop 6 d)))
+  numbers_are k p q r s t = rw (p, q, r, s, t)

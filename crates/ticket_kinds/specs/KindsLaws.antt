@@ -87,6 +87,10 @@ pub kind_kept : (k : ℕ) (xs : List ℕ) → eqb (field_count k) 0 ≡ false �
 unfolding ticket_of
 kind_kept k xs h = by_kind (λ (k : ℕ). kind_of (ticket_of k xs) ≡ k) refl refl refl refl refl refl k h
 
+-- a code that is none of the first three is Kaiser's
+pub last_window : (code beta : ℕ) → (code ≡ 0 → ⊥) → (code ≡ 1 → ⊥) → (code ≡ 2 → ⊥) → Kaiser beta ≡ window_of code beta
+last_window code beta a b c = rw (ne_eqb code 0 a, ne_eqb code 1 b, ne_eqb code 2 c)
+
 -- ---- the tests look at the fields alone
 pub formed_numbers : (k : ℕ) (xs : List ℕ) → formed_of (numbers_in k xs) ≡ formed k xs
 unfolding formed_of window_taken ticket_of
