@@ -58,12 +58,10 @@ fn total(a: f64, sps: f64, mid: f64, n: u64, raws: &mut [f64]) -> f64
     ensures { SumCached (raw_at a sps mid) n result raws.new }
 {
     let mut sum = 0.0;
-    let mut i = 0u64;
-    while i < n {
+    for i in 0..n {
         let v = raw_at(a, sps, mid, i);
         keep(&mut *raws, i, v);
         sum = sum + v;
-        i += 1;
     }
     sum
 }

@@ -57,10 +57,8 @@ fn total(lp: Lowpass, raws: &[f64], n: u64) -> f64
     ensures { Caches lp raws.now → result ≡ sum_to binary64 (unscaled lp n) n }
 {
     let mut sum = 0.0;
-    let mut k = 0u64;
-    while k < n {
+    for k in 0..n {
         sum = sum + unscaled_tap(lp, raws, n, k);
-        k += 1;
     }
     sum
 }

@@ -117,11 +117,9 @@ fn energy(b: f64, sps: u64, n: u64) -> f64
     ensures { result ≡ sum_to binary64 (λ k. unscaled_at b sps n k ⊗ unscaled_at b sps n k) n }
 {
     let mut sum = 0.0;
-    let mut k = 0u64;
-    while k < n {
+    for k in 0..n {
         let h = unscaled_at(b, sps, n, k);
         sum = sum + h * h;
-        k += 1;
     }
     sum
 }

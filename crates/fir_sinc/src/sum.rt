@@ -146,10 +146,8 @@ fn keep_rest(fc: f64, w: Window, i0: f64, n: u64, half: u64, from: u64, raws: &m
     ensures { CachesOf (raw_at fc w i0 n) n raws.new }
 {
     let mut p = n;
-    let mut i = from;
-    while i < n {
+    for i in from..n {
         p = keep_next(fc, w, i0, n, half, p, i, &mut *raws);
-        i += 1;
     }
     if p < n {
         raws[p as usize] = raws[p as usize] * window_at(w, i0, n, p);
@@ -164,10 +162,8 @@ fn sum_on(begun: f64, list: &[f64], from: u64, n: u64) -> f64
     ensures { Adds list.now begun from result n }
 {
     let mut sum = begun;
-    let mut i = from;
-    while i < n {
+    for i in from..n {
         sum = sum + list[i as usize];
-        i += 1;
     }
     sum
 }
@@ -202,11 +198,9 @@ fn rest_taken(fc: f64, w: Window, i0: f64, n: u64, from: u64, begun: f64, raws: 
     ensures { SumCached (raw_at fc w i0 n) n result raws.new }
 {
     let mut sum = begun;
-    let mut i = from;
-    while i < n {
+    for i in from..n {
         let v = raw_at(fc, w, i0, n, i);
         sum = take(sum, i, v, &mut *raws);
-        i += 1;
     }
     sum
 }
@@ -251,6 +245,7 @@ fn plan_of(w: Window, n: u64, room: u64) -> Plan
 // needn't be worked out again. The first are taken two at a time, since two of Kaiser's series cost little more than
 // one, and two of his roots less than two. What else they need, and the arguments of the next two, stands before the
 // series: a processor mispredicts where these end, and only what comes before that branch is worked out alongside.
+// A `while`: it goes two taps a turn, and from where it ends the next loop takes what is left.
 fn summed(fc: f64, w: Window, i0: f64, n: u64, raws: &mut [f64]) -> f64
     requires n_low { 0 < n }
     requires n_high { n ≤ 2 ^ 24 }

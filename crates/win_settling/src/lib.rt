@@ -25,14 +25,7 @@ fn element_settles(beta: f64, d: u64, i: u64) -> bool
 fn elements_settle(beta: f64, d: u64, n: u64) -> bool
     ensures { result ≡ every n (element_settles beta d) }
 {
-    let mut i = 0u64;
-    while i < n {
-        if !element_settles(beta, d, i) {
-            return false;
-        }
-        i += 1;
-    }
-    true
+    (0..n).all(|i| element_settles(beta, d, i))
 }
 
 // Whether every series that a Kaiser window of n elements takes has settled: at beta and at each element, where the

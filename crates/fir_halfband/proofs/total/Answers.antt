@@ -11,20 +11,18 @@ use Rattle.fir_halfband.proofs.total.Goals as goal
 pub loop-k-init : goal.loop-k-init
 loop-k-init c =
     let a = c.args in
-    (omega arith, λ _. sum_none binary64 (unscaled a.lp a.n))
+    λ _. sum_none binary64 (unscaled a.lp a.n)
 
 pub loop-k-preserved : goal.loop-k-preserved
 loop-k-preserved c =
     let a = c.args in
-    let g = unscaled a.lp a.n in (
-      omega arith,
-      λ h. ap (λ (z : Float). add binary64 z c.unscaled_tap-sum.result) (c.loop-k.invariant.1 h)
-          ∙ ap (λ (z : Float). add binary64 (sum_to binary64 g c.loop-k.k) z) (c.unscaled_tap-sum.ensures h)
-          ∙ sum_more binary64 g c.loop-k.k,
-    )
+    let g = unscaled a.lp a.n in
+    λ h. ap (λ (z : Float). add binary64 z c.unscaled_tap-sum.result) (c.loop-k.invariant h)
+    ∙ ap (λ (z : Float). add binary64 (sum_to binary64 g c.loop-k.k) z) (c.unscaled_tap-sum.ensures h)
+    ∙ sum_more binary64 g c.loop-k.k
 
 pub returns : goal.returns
 returns c h =
     let a = c.args in
     let e : c.loop-k.k ≡ a.n = omega arith in
-    c.loop-k.invariant.1 h ∙ ap (λ (k : ℕ). sum_to binary64 (unscaled a.lp a.n) k) e
+    c.loop-k.invariant h ∙ ap (λ (k : ℕ). sum_to binary64 (unscaled a.lp a.n) k) e

@@ -1,6 +1,5 @@
 -- `fir_halfband::total` meets its contract. The loop's invariant: the sum of the taps so far. Assumes nothing.
 use mathlib.Core.Path.{◌≡◌}
-use Prim.Native.Nat.{◌≤◌, ◌-◌}
 use lib.Ieee.{binary64}
 use Rattle.laws.specs.Sums.{sum_to}
 use Rattle.fir_lowpass.specs.Cached.{Caches}
@@ -8,7 +7,4 @@ use Rattle.fir_halfband.specs.Halfband.{unscaled}
 use Rattle.fir_halfband.proofs.total.Given as goal
 
 abbrev pub invariant-loop-k : goal.invariant-loop-k
-invariant-loop-k l = (l.k ≤ l.n) × (Caches l.lp l.raws → l.sum ≡ sum_to binary64 (unscaled l.lp l.n) l.k)
-
-abbrev pub decreases-loop-k : goal.decreases-loop-k
-decreases-loop-k l = l.n - l.k
+invariant-loop-k l = Caches l.lp l.raws → l.sum ≡ sum_to binary64 (unscaled l.lp l.n) l.k

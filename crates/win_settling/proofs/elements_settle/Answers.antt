@@ -1,23 +1,24 @@
--- `win_settling::elements_settle` meets its contract. The loop's invariant: those so far have settled. Assumes nothing.
-use Rattle.std.proofs.Common.{sym, ◌∙◌, arith}
-use Rattle.laws.specs.Every.{every_all, every_fails, one_more}
+-- `win_settling::elements_settle` meets its contract: `all` tries every number below n. Assumes nothing.
+use Rattle.std.proofs.Common.{◌≡◌, ℕ, zero, suc, ◌+◌, Bool, refl, ap, ◌∙◌, arith, rules}
+use Rattle.std.specs.List.{list_all, range_with_len}
+use Rattle.std.proofs.lemmas.Iterator.{YieldsList-from_range}
+use Rattle.std.proofs.lemmas.Iterator.Search.{all_from_yields_List}
+use Rattle.laws.specs.Every.{every}
 use Rattle.win_settling.specs.Settling.{element_settles}
 use Rattle.win_settling.proofs.elements_settle.Goals as goal
 
-pub loop-i-init : goal.loop-i-init
-loop-i-init c = λ k l. absurd (omega arith)
-
-pub returns-then-not-element_settles : goal.returns-then-not-element_settles
-returns-then-not-element_settles c =
-    let a = c.args in
-    sym (every_fails a.n (element_settles a.beta a.d) c.loop-i.i c.loop-i-test.true (sym c.element_settles.ensures ∙ c.if-not-element_settles.true))
-
-pub loop-i-preserved : goal.loop-i-preserved
-loop-i-preserved c =
-    let a = c.args in
-    one_more (element_settles a.beta a.d) c.loop-i.i c.loop-i.invariant (sym c.element_settles.ensures ∙ c.if-not-element_settles.false)
+-- of the numbers from a on
+tried : (f : ℕ → Bool) (n a : ℕ) (g : ℕ → Bool) → ((k : ℕ) → f (a + k) ≡ g k) → list_all f (range_with_len a n) ≡ every n g
+unfolding every
+tried f zero a g h = refl
+tried f (suc n) a g h =
+    let first : f a ≡ g 0 = ap f (omega arith) ∙ h 0 in
+    let rest = tried f n (a + 1) (λ k. g (suc k)) (λ k. ap f (omega arith) ∙ h (suc k)) in
+    rw (first, rest)
 
 pub returns : goal.returns
 returns c =
     let a = c.args in
-    sym (every_all a.n (element_settles a.beta a.d) (λ k l. c.loop-i.invariant k (omega arith)))
+    let f = element_settles a.beta a.d in
+    all_from_yields_List {v = λ x. x} f _ _ _ c.all.ensures.ran (YieldsList-from_range 0 a.n a.n refl (omega arith)) (λ x b q k. search rules)
+    ∙ tried f a.n 0 f (λ k. ap f (omega arith))

@@ -10,19 +10,17 @@ use Rattle.fir_rrc.proofs.design.energy.Goals as goal
 pub loop-k-init : goal.loop-k-init
 loop-k-init c =
     let a = c.args in
-    (omega arith, sum_none binary64 (square a.b a.sps a.n))
+    sum_none binary64 (square a.b a.sps a.n)
 
 pub loop-k-preserved : goal.loop-k-preserved
 loop-k-preserved c =
-    let a = c.args in (
-      omega arith,
-      ap (λ (z : Float). z ⊕ c.unscaled_at-h.result ⊗ c.unscaled_at-h.result) c.loop-k.invariant.1
-          ∙ ap (λ (z : Float). sum_to binary64 (square a.b a.sps a.n) c.loop-k.k ⊕ z ⊗ z) c.unscaled_at-h.ensures
-          ∙ sum_more binary64 (square a.b a.sps a.n) c.loop-k.k,
-    )
+    let a = c.args in
+    ap (λ (z : Float). z ⊕ c.unscaled_at-h.result ⊗ c.unscaled_at-h.result) c.loop-k.invariant
+    ∙ ap (λ (z : Float). sum_to binary64 (square a.b a.sps a.n) c.loop-k.k ⊕ z ⊗ z) c.unscaled_at-h.ensures
+    ∙ sum_more binary64 (square a.b a.sps a.n) c.loop-k.k
 
 pub returns : goal.returns
 returns c =
     let a = c.args in
     let e : c.loop-k.k ≡ a.n = omega arith in
-    c.loop-k.invariant.1 ∙ ap (sum_to binary64 (square a.b a.sps a.n)) e
+    c.loop-k.invariant ∙ ap (sum_to binary64 (square a.b a.sps a.n)) e

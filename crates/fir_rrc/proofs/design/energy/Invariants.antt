@@ -1,5 +1,5 @@
 -- `fir_rrc::design::energy` meets its contract. The loop's invariant: the energy of the taps so far. Assumes nothing.
-use Rattle.std.proofs.Common.{◌≡◌, ℕ, ◌-◌, ◌≤◌}
+use Rattle.std.proofs.Common.{◌≡◌, ℕ}
 use lib.Ieee.{Float, binary64}
 use Rattle.laws.specs.Binary64.{◌⊗◌}
 use Rattle.laws.specs.Sums.{sum_to}
@@ -11,7 +11,4 @@ abbrev pub square : Float → ℕ → ℕ → ℕ → Float
 square b sps n k = unscaled_at b sps n k ⊗ unscaled_at b sps n k
 
 abbrev pub invariant-loop-k : goal.invariant-loop-k
-invariant-loop-k l = (l.k ≤ l.n) × (l.sum ≡ sum_to binary64 (square l.b l.sps l.n) l.k)
-
-abbrev pub decreases-loop-k : goal.decreases-loop-k
-decreases-loop-k l = l.n - l.k
+invariant-loop-k l = l.sum ≡ sum_to binary64 (square l.b l.sps l.n) l.k
