@@ -72,7 +72,12 @@ fn takes_estimate(num: f64) -> bool
 
 // How many taps Kaiser's estimate has for these edges, not made odd. Refused, in this order: 6 the channels; 2, 2, 4 as
 // the edges; 3 where the estimate isn't finite or is above 2^24. Example: 16 channels, 0.5, 1, 60 dB: 118.
-pub fn channelizer_taps(channels: u64, passband: f64, stopband: f64, attenuation: f64) -> Result<u64, Refusal>
+pub fn channelizer_taps(
+    channels: u64,
+    passband: f64,
+    stopband: f64,
+    attenuation: f64,
+) -> Result<u64, Refusal>
     ensures { result ≡ channelizer_taps_of channels passband stopband attenuation }
 {
     if !takes_channels(channels) {

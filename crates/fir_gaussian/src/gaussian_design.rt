@@ -79,12 +79,7 @@ pub fn prepare(bt: f64, sps: u64, span: u64, raws: &mut [f64]) -> Result<Gaussia
         return Err(Refusal::Range(Reason::Shape, 0.2, 1.0, bt));
     }
     if !takes_span(span) {
-        return Err(Refusal::Range(
-            Reason::Count,
-            2.0,
-            8.0,
-            std::num::nearest_u64_to_f64(span),
-        ));
+        return Err(Refusal::Range(Reason::Count, 2.0, 8.0, std::num::nearest_u64_to_f64(span)));
     }
     let most = (TAP_LIMIT - 1) / span;
     if !takes_samples(sps, most) {

@@ -48,12 +48,7 @@ pub fn rrc_len(sps: u64, span: u64) -> Result<u64, Refusal>
         ));
     }
     if !takes_span(span) {
-        return Err(Refusal::Range(
-            Reason::Count,
-            4.0,
-            32.0,
-            std::num::nearest_u64_to_f64(span),
-        ));
+        return Err(Refusal::Range(Reason::Count, 4.0, 32.0, std::num::nearest_u64_to_f64(span)));
     }
     Ok(span * sps + 1)
 }

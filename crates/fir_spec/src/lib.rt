@@ -53,7 +53,13 @@ pub fn spec_order(spec: DesignSpec, rate: f64, cap: u64) -> Result<Order, Refusa
 // The design for a buffer of `len` elements: refused as `spec_order`, then 8 where the taps are not `len`, then as a
 // low-pass.
 // The first raw taps are left in `raws`, as many as it has places.
-pub fn spec_prepare(spec: DesignSpec, rate: f64, cap: u64, len: u64, raws: &mut [f64]) -> Result<Lowpass, Refusal>
+pub fn spec_prepare(
+    spec: DesignSpec,
+    rate: f64,
+    cap: u64,
+    len: u64,
+    raws: &mut [f64],
+) -> Result<Lowpass, Refusal>
     ensures { PreparesLowpass (spec_design_of spec rate cap len) result raws.new }
 {
     let order = spec_order(spec, rate, cap)?;
