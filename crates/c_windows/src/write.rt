@@ -16,7 +16,7 @@ use win_sampled::shape::{
 // Fills a buffer of whole samples, sample i at its place. The samples are taken two at a time, since two of Kaiser's
 // series cost little more than one, and two of his roots less than two, and the arguments of the next two are worked
 // out before: a processor mispredicts where a series ends, and only what stands before that branch is worked out
-// alongside.
+// alongside. A `while`: it goes two samples a turn, and one may be left.
 fn put_samples(shape: Shape, i0: f64, d: u64, sample: Sample, out: &mut [u8])
     requires { length out.old % width_of sample ≡ 0 }
     ensures { out.new ≡ chunks (length out.old / width_of sample) (λ i. sample_bytes sample (sample_at shape i0 d i)) }

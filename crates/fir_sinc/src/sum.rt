@@ -54,7 +54,8 @@ fn is_mirrored_sinc(x: f64, y: f64) -> bool
     }
 }
 
-// A tap without its window, and whether its mirror image is at hand and has the same.
+// A tap without its window, and whether its mirror image is at hand and has the same: no `Option`, since the tap is
+// there either way.
 #[derive(Clone, Copy)]
 struct Near {
     ideal: f64,

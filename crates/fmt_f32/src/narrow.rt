@@ -1,4 +1,5 @@
-// An f64 as the nearest f32, ties to even. The language has no such cast, so it is worked out on the bit pattern.
+// An f64 as the nearest f32, ties to even, worked out on the bit pattern: so a NaN has one pattern, and a buffer of
+// bytes is converted by whole numbers alone.
 ghost use Rattle.std.specs.Prelude.{◌≡◌, ◌/◌, ◌<◌, ◌≤◌};
 ghost use Rattle.std.specs.Float.{binary32, binary64};
 ghost use Rattle.std.specs.Float.Ieee.{to_bits, of_bits};

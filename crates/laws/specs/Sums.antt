@@ -1,5 +1,4 @@
--- The sum of g 0, g 1, .., g (n - 1) in that order, from +0, each addition rounded once; and that it is the sum of the
--- list of them. Assumes nothing.
+-- The sum of g 0, g 1, .., g (n - 1) in that order, from +0, each addition rounded once. Definitions only.
 use Rattle.std.specs.Prelude.{ℕ, zero, suc, Float}
 use Rattle.std.specs.Float.{Format}
 use Rattle.std.specs.Float.Ieee.{add, of_bits}

@@ -9,7 +9,7 @@ ghost use Rattle.math_bessel.specs.Series.{least, series_at, series_of};
 ghost use Rattle.math_bessel.specs.Laws.{Going, half_of, next_term, stopped_of};
 
 // A sum, how many terms after the leading 1 it took, 1 to 500, and whether it has settled: its last term is below 1e-17
-// of it, and it is finite.
+// of it, and it is finite. A flag beside the sum and no `Result`: both figures are told where it hasn't settled too.
 #[derive(Clone, Copy)]
 pub struct Series {
     pub sum: f64,

@@ -1,5 +1,5 @@
 -- The refusals' numbers are 1 to 14 and 16 to 19, and what a caller hears of a verdict whose refusal has one of them is
--- what demand 1 says. Assumes nothing.
+-- what demand 1 says. Definitions only.
 use Rattle.std.specs.Prelude.{ℕ, Bool, true, ◌&&◌, ◌||◌, List, [], ◌∷◌, leb, Err, Ok, Result}
 use Rattle.verdict.specs.Report.{report_of}
 use Rattle.promise_refusals.specs.Demand.{IsRefusal}

@@ -1,6 +1,6 @@
 -- The chain to the filter as one statement: the taps that a design export writes, converted by an accepted `pel_to_q15`
 -- and read back from the bytes as the signed 16-bit numbers that a filter runs on, have an exact sum within the Q15
--- total. Assumes nothing.
+-- total. Definitions only.
 use Rattle.std.specs.Prelude.{◌≡◌, List, [], ◌∷◌, ℕ, ◌+◌, ◌*◌, ◌^◌, ◌≤◌, T, ℤ, pos, nat_abs, ◌+ℤ◌, ◌-ℤ◌, length, Float}
 use Rattle.std.specs.Float.Ieee.Scale.{finite}
 use Rattle.laws.specs.SumError.{Each}

@@ -1,5 +1,5 @@
 -- The bytes of an accepted half-band: tap i and its mirror image are the same eight bytes, and every tap at an even
--- distance from the middle but 0 is zero, whether the taps are finite or not. Assumes nothing.
+-- distance from the middle but 0 is zero, whether the taps are finite or not. Definitions only.
 use Rattle.std.specs.Prelude.{◌≡◌, List, ℕ, ◌-◌, ◌*◌, ◌%◌, ◌<◌, take, drop, Float}
 use Rattle.wire.specs.Bytes.{float_at}
 use Rattle.verdict.specs.declared.Report.{Report}

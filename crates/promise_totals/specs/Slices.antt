@@ -1,5 +1,5 @@
 -- Demand 3 of the taps that a design leaves in a slice of f64s, and the mirror and the zeros of a half-band there, for
--- every ticket and every length of the slice: one law from `Fills`. Assumes nothing.
+-- every ticket and every length of the slice. Definitions only.
 use Rattle.std.specs.Prelude.{◌≡◌, List, ℕ, ◌-◌, ◌%◌, ◌<◌, T, length, get_or, Float, Ok, Result}
 use Rattle.std.specs.Float.{nan}
 use Rattle.std.specs.Float.Ieee.Scale.{finite}

@@ -1,5 +1,5 @@
 -- Demand 3 of the taps that the exports write, read back from the bytes, for every ticket and every length of the
--- buffer. Assumes nothing.
+-- buffer. Definitions only.
 use Rattle.std.specs.Prelude.{◌≡◌, List, ℕ, T, Float}
 use Rattle.std.specs.Float.Ieee.Scale.{finite}
 use Rattle.laws.specs.SumError.{Each}

@@ -1,3 +1,3 @@
--- Laws that several proofs of this crate cite, and no other crate.
+-- Laws that several proofs of this crate cite, and those that other crates cite too.
 mod Signed
 pub mod WritesLaws
