@@ -1,6 +1,5 @@
 -- What `q14_from_f64` rests on: the two tests of the floor tell together whether the value is finite and its floor has
--- 16 bits, and then casting the floor to an i16 gives it back. And what the outcome of one number tells. Assumes
--- nothing.
+-- 16 bits, and then casting the floor to an i16 gives it back. Assumes nothing.
 use Rattle.std.specs.Prelude.{Err, Ok}
 use mathlib.Core.Path.{◌≡◌, refl, sym, ap, ◌∙◌, subst}
 use mathlib.Core.Bool.{Bool, true, false, ◌&&◌, cond, true≢false}
@@ -15,12 +14,10 @@ use Rattle.laws.specs.Floor.{floor_z}
 use Rattle.laws.specs.Units.{nought}
 use Rattle.laws.specs.WholeValues.{signed}
 use Rattle.math_round.specs.Whole.{floor_of}
-use Rattle.verdict.specs.declared.Refusal.{Refusal}
 use Rattle.fmt_q15.specs.Q15.{in16}
 use Rattle.fmt_q14.specs.Q14.{moved, q14_of, takes, outside, q14_tap_of}
 use Rattle.math_round.specs.FloorAs.{rounded, floor_as}
 use Rattle.fmt_q15.specs.WholeFloats.{most, least, signs_order, stays, turned, Cut, cut_some, cut_none}
-use Rattle.fmt_q15.specs.Q15Laws.{number_tells, refusal_tells}
 
 -- ---- both tests of a whole number
 one_less : (n : ℕ) → leb n 32768 ≡ in16 (signed true n)
@@ -92,12 +89,3 @@ code_high i x v e h = outcome i x false (sym (tests (moved x) v e) ∙ ap (λ (t
     none : (t : Bool) → (t && false) ≡ false
     none true = refl
     none false = refl
-
--- ---- what the outcome of one number tells
-pub q14_number : (i : ℕ) (x : Float) (q : ℤ) → q14_tap_of i x ≡ Ok q → (takes x ≡ true) × (q14_of x ≡ q)
-unfolding q14_tap_of
-q14_number i x q e = number_tells (takes x) (q14_of x) q (outside i x) e
-
-pub q14_refused : (i : ℕ) (x : Float) (why : Refusal) → q14_tap_of i x ≡ Err why → (takes x ≡ false) × (outside i x ≡ why)
-unfolding q14_tap_of
-q14_refused i x why e = refusal_tells (takes x) (q14_of x) (outside i x) why e

@@ -6,6 +6,7 @@ ghost use Rattle.math_round.specs.Whole.{floor_of};
 ghost use Rattle.verdict.specs.Converts.{Converts};
 ghost use Rattle.fmt_q14.specs.Q14.{moved, takes, outside, q14_of, q14_tap_of};
 
+use fmt_q15::convert::{Coded, convert};
 use verdict::Refusal;
 
 // The largest number that there is.
@@ -40,6 +41,22 @@ fn number(i: u64, x: f64, v: f64) -> Result<i16, Refusal>
     }
 }
 
+// Q2.14 as a code of 16 bits.
+struct Q14;
+
+impl Coded for Q14 {
+    ghost takes = { takes };
+
+    ghost outside = { outside };
+
+    ghost item = { q14_of };
+
+    #[tactic(auto, unfolding(crate::specs::Q14::q14_tap_of))]
+    fn coded(i: u64, x: f64) -> Result<i16, Refusal> {
+        q14_from_f64(i, x)
+    }
+}
+
 // Converts sections, five numbers each, one after the other. Refused, in this order: 8 a source that isn't whole
 // sections, with the length to the last whole one and the length; 8 where the lengths differ; and then nothing is
 // written; 11 at the first number that isn't taken, counted from the first of all, and then those before it are
@@ -52,11 +69,5 @@ pub fn to_q14(src: &[f64], dst: &mut [i16]) -> Result<(), Refusal>
         let m = n as u64;
         return Err(Refusal::Length(m - m % 5, m));
     }
-    if n != dst.len() {
-        return Err(Refusal::Length(n as u64, dst.len() as u64));
-    }
-    for i in 0..n {
-        dst[i] = q14_from_f64(i as u64, src[i])?;
-    }
-    Ok(())
+    convert::<Q14>(src, &mut *dst)
 }

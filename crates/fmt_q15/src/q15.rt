@@ -3,6 +3,7 @@ ghost use Rattle.std.specs.Prelude.{◌≡◌};
 ghost use Rattle.verdict.specs.Converts.{Converts};
 ghost use Rattle.fmt_q15.specs.Q15.{takes, outside, q15_of, q15_tap_of};
 
+use super::convert::{Coded, convert};
 use verdict::Refusal;
 
 // The largest size that is taken: a hundredth above the largest Q15 number.
@@ -48,18 +49,27 @@ pub fn q15_tap(i: u64, t: f64) -> Result<i16, Refusal>
     }
 }
 
+// Q15 as a code of 16 bits.
+struct Q15;
+
+impl Coded for Q15 {
+    ghost takes = { takes };
+
+    ghost outside = { outside };
+
+    ghost item = { q15_of };
+
+    #[tactic(auto, unfolding(crate::specs::Q15::q15_tap_of))]
+    fn coded(i: u64, x: f64) -> Result<i16, Refusal> {
+        q15_tap(i, x)
+    }
+}
+
 // Converts the source element by element. Refused: 8 where the lengths differ, and then nothing is written; 11 at the
 // first element that isn't taken, and then those before it are converted and the rest is as it came. Example: 1, −1
 // gives 32767, −32768.
 pub fn to_q15(src: &[f64], dst: &mut [i16]) -> Result<(), Refusal>
     ensures { Converts 1 takes outside q15_of src.now dst.old result dst.new }
 {
-    let n = src.len();
-    if n != dst.len() {
-        return Err(Refusal::Length(n as u64, dst.len() as u64));
-    }
-    for i in 0..n {
-        dst[i] = q15_tap(i as u64, src[i])?;
-    }
-    Ok(())
+    convert::<Q15>(src, &mut *dst)
 }

@@ -3,6 +3,7 @@
 use Rattle.std.specs.Prelude.{◌≡◌, ℕ, ◌+◌, ◌-◌, ◌%◌, ◌<◌, ◌≤◌, Bool, true, false, cond, List, length, drop, set, ◌==◌, ◌≢◌, slice_index_or, slice_set, refl, Float, Err, Ok, Result}
 use Rattle.std.proofs.Math.Path.{sym}
 use Rattle.std.proofs.Common.{ap, ◌∙◌, arith}
+use native.Mathlib.Nat.{mod-one}
 use borrow.Author.Tests.{eq-eqb, ne_eqb, eqb-true}
 use Rattle.std.specs.Float.Ieee.{nan}
 use Rattle.laws.specs.Filled.{filled, fill_none, fill_more, length_filled}
@@ -29,6 +30,11 @@ module _ (g n m : ℕ) where
   pub same_count : n % g ≡ 0 → n ≡ m → groups_of g n m ≡ Ok tt
   unfolding groups_of
   same_count a b = simp eq-eqb
+
+  -- whole groups are told by nothing else than the lengths
+  pub whole_groups : n % g ≡ 0 → groups_of g n m ≡ groups_of 1 n m
+  unfolding groups_of
+  whole_groups a = rw (a, mod-one n)
 
   pub right_count : groups_of g n m ≡ Ok tt → n ≡ m
   unfolding groups_of
@@ -75,6 +81,10 @@ module _ {A : Type 0} {takes : Float → Bool} {item : Float → A} {s : List Fl
   -- a length is refused
   pub lengths_refused : {g : ℕ} {outside : ℕ → Float → Refusal} {why : Refusal} → groups_of g (length s) (length before) ≡ Err why → Converts g takes outside item s before (Err why) before
   lengths_refused e = record { answer = rw e; buffer = rw e }
+
+  -- whole groups are converted as their elements are
+  pub in_groups : {g : ℕ} {outside : ℕ → Float → Refusal} {r : Result (Unit {0}) Refusal} {after : List A} → length s % g ≡ 0 → Converts 1 takes outside item s before r after → Converts g takes outside item s before r after
+  in_groups {g = g} h c = let same = whole_groups g (length s) (length before) h in record { answer = rw same c.answer; buffer = rw same c.buffer }
 
   module _ {i : ℕ} {after : List A} (at : Reached takes item s before i after) where
     pub same_size : i ≤ length before → length after ≡ length before
