@@ -7,12 +7,12 @@ use ticket_kinds::kind::Kind;
 use ticket_kinds::numbers::Numbers;
 
 // The length that a record tells of itself.
-#[tactic(auto, using(wire::specs::Read::four))]
+#[tactic(auto, using(wire::specs::Read::chunk_in))]
 pub(crate) fn length_in(src: &[u8]) -> u64
     requires { 6 ≤ length src.now }
     ensures { result ≡ length_in src.now }
 {
-    wire::join_four(src[0], src[1], src[2], src[3]) as u64
+    u64::from(wire::number_in_four(&src.as_chunks::<4>().0[0]))
 }
 
 // Its kind, by number.

@@ -112,6 +112,13 @@ pub fn number_in(bytes: &[u8; 8]) -> u64
     u64::from_le_bytes(*bytes)
 }
 
+// Four bytes as a number, likewise.
+pub fn number_in_four(bytes: &[u8; 4]) -> u32
+    ensures { result ≡ number_of bytes.now }
+{
+    u32::from_le_bytes(*bytes)
+}
+
 // Four bytes as a number, the lowest first.
 pub fn join_four(a: u8, b: u8, c: u8, d: u8) -> u32
     ensures { result ≡ joined_four a b c d }
