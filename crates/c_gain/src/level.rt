@@ -30,7 +30,8 @@ fn is_nan(n: u32) -> bool {
 
 // Both figures of a buffer of whole f32s, summed by rising index. A NaN's pattern can't be read as it stands, so that
 // every sample has to be tested; four at a time are, by one branch, and from the first four with a NaN on each by
-// itself. The first loop is a `while`, since it goes four a turn and ends there.
+// itself. The first loop is a `while`, since it goes four a turn and ends there. The words are read by index, which the
+// proof shows to be among them, so that no test stands in the loops.
 fn gain_in(src: &[u8]) -> Gain
     requires { length src.now % 4 ≡ 0 }
     ensures { result ≡ gain_of (singles src.now) }
