@@ -1,8 +1,5 @@
 // What a window does to a level and to noise, as an export.
-ghost use Rattle.std.specs.Prelude.{◌≡◌, ◌+◌, ◌%◌, ◌≤◌, length};
-ghost use Rattle.std.specs.Float.{binary32};
-ghost use Rattle.std.specs.Float.Ieee.{of_bits};
-ghost use Rattle.wire.specs.Bytes.{single_at};
+ghost use Rattle.std.specs.Prelude.{◌≡◌, ◌%◌, length};
 ghost use Rattle.win_gain.specs.Gain.{gain_of};
 ghost use Rattle.c_gain.specs.Level.{singles, gain_report};
 
@@ -25,15 +22,6 @@ pub struct GainReport {
     pub bandwidth: f64,
 }
 
-// The pattern of the sample whose four bytes begin at `at`. The bytes are read by index, which the proof shows to be in
-// the buffer, so that no test stands in the loop.
-fn pattern_at(src: &[u8], at: usize) -> u32
-    requires { at + 4 ≤ length src.now }
-    ensures { of_bits binary32 result ≡ single_at src.now at }
-{
-    wire::join_four(src[at], src[at + 1], src[at + 2], src[at + 3])
-}
-
 // Whether a pattern is a NaN's. Nothing rests on it but time: `wide_of` tests once more, and where this said no the
 // compiler leaves that test out.
 fn is_nan(n: u32) -> bool {
@@ -42,20 +30,22 @@ fn is_nan(n: u32) -> bool {
 
 // Both figures of a buffer of whole f32s, summed by rising index. A NaN's pattern can't be read as it stands, so that
 // every sample has to be tested; four at a time are, by one branch, and from the first four with a NaN on each by
-// itself. The first loop is a `while`, since it goes four a turn and ends there.
+// itself. The first loop is a `while`, since it goes four a turn and ends there. The words are read by index, which the
+// proof shows to be among them, so that no test stands in the loops.
 fn gain_in(src: &[u8]) -> Gain
     requires { length src.now % 4 ≡ 0 }
     ensures { result ≡ gain_of (singles src.now) }
 {
-    let n = src.len() / 4;
+    let words = src.as_chunks::<4>().0;
+    let n = words.len();
     let mut sum = 0.0;
     let mut squares = 0.0;
     let mut i = 0usize;
     while i + 3 < n {
-        let a = pattern_at(src, 4 * i);
-        let b = pattern_at(src, 4 * i + 4);
-        let c = pattern_at(src, 4 * i + 8);
-        let d = pattern_at(src, 4 * i + 12);
+        let a = wire::number_in_four(&words[i]);
+        let b = wire::number_in_four(&words[i + 1]);
+        let c = wire::number_in_four(&words[i + 2]);
+        let d = wire::number_in_four(&words[i + 3]);
         if is_nan(a) | is_nan(b) | is_nan(c) | is_nan(d) {
             break;
         }
@@ -68,7 +58,7 @@ fn gain_in(src: &[u8]) -> Gain
         i += 4;
     }
     for k in i..n {
-        let v = wire::wide_of(pattern_at(src, 4 * k));
+        let v = wire::wide_of(wire::number_in_four(&words[k]));
         sum = sum + v;
         squares = squares + v * v;
     }

@@ -1,10 +1,12 @@
 -- The numbers of a record by their places in the bytes, as the reader takes them. Assumes nothing.
-use Rattle.std.specs.Prelude.{◌≡◌, refl, List, [], ◌∷◌, ℕ, zero, suc, ◌+◌, ◌*◌, ◌≤◌, ◌<◌, length, take, drop, get_or}
-use Rattle.std.proofs.Common.{sym, ap, ◌∙◌, not-suc-le-zero, arith, drop-drop, drop-cons}
+use Rattle.std.specs.Prelude.{◌≡◌, refl, List, [], ◌∷◌, ℕ, zero, suc, ◌+◌, ◌*◌, ◌/◌, ◌≤◌, ◌<◌, length, take, drop, get_or}
+use Rattle.std.proofs.Common.{sym, ap, ◌∙◌, not-suc-le-zero, arith, length-drop, drop-drop, drop-cons}
+use Rattle.std.specs.Simd.{first_chunks}
 use Rattle.wire.specs.Bytes.{number_of, joined_four}
+use Rattle.wire.specs.Read.{chunk_in}
 use Rattle.ticket_kinds.specs.Kinds.{numbers_in}
 use Rattle.ticket_kinds.specs.declared.numbers.Numbers.{Numbers}
-use Rattle.ticket_card.specs.Card.{fields_in, kind_in}
+use Rattle.ticket_card.specs.Card.{record_length, fields_in, kind_in}
 
 none : (d : List ℕ) → number_of (take 0 d) ≡ 0
 unfolding number_of
@@ -40,6 +42,14 @@ unfolding fields_in
 past_fields zero i d h = refl
 past_fields (suc n) zero d h = absurd (not-suc-le-zero h)
 past_fields (suc n) (suc i) d h = past_fields n i (drop 8 d) (omega arith)
+
+-- word i of those that the library cuts the fields' bytes into
+pub word_at : (n i : ℕ) (d none : List ℕ) {words : List (List ℕ)} {x : ℕ} → words ≡ first_chunks 8 (length (drop 6 d) / 8) (drop 6 d) → x ≡ number_of (get_or words i none) → record_length n ≤ length d → i < n → x ≡ get_or (fields_in n (drop 6 d)) i 0
+word_at n i d none front e there h =
+    e
+    ∙ ap (λ (l : List (List ℕ)). number_of (get_or l i none)) front
+    ∙ ap number_of (chunk_in 8 (length (drop 6 d) / 8) i (drop 6 d) none (omega (arith, length-drop 6 d)))
+    ∙ sym (field_at n i (drop 6 d) h)
 
 -- the numbers of n fields, as they are read: those that are there, and 0 past them
 module _ (n : ℕ) (d : List ℕ) where

@@ -1,37 +1,18 @@
 // The numbers in a record's bytes, at proved places: none is read with a test of its own.
-ghost use Rattle.std.specs.Prelude.{◌≡◌, ◌+◌, ◌*◌, ◌≤◌, length, take, drop};
-ghost use Rattle.wire.specs.Bytes.{number_of};
+ghost use Rattle.std.specs.Prelude.{◌≡◌, ◌+◌, ◌*◌, ◌≤◌, length, drop};
 ghost use Rattle.ticket_kinds.specs.Kinds.{kind_number, field_count, numbers_in};
 ghost use Rattle.ticket_card.specs.Card.{record_length, fields_in, length_in, kind_in};
 
 use ticket_kinds::kind::Kind;
 use ticket_kinds::numbers::Numbers;
 
-// The number in the eight bytes from `at` on.
-#[tactic(auto, using(wire::specs::Read::eight))]
-fn field(src: &[u8], at: usize) -> u64
-    requires { at + 8 ≤ length src.now }
-    ensures { result ≡ number_of (take 8 (drop at src.now)) }
-{
-    wire::join(
-        src[at],
-        src[at + 1],
-        src[at + 2],
-        src[at + 3],
-        src[at + 4],
-        src[at + 5],
-        src[at + 6],
-        src[at + 7],
-    )
-}
-
 // The length that a record tells of itself.
-#[tactic(auto, using(wire::specs::Read::four))]
+#[tactic(auto, using(wire::specs::Read::chunk_in))]
 pub(crate) fn length_in(src: &[u8]) -> u64
     requires { 6 ≤ length src.now }
     ensures { result ≡ length_in src.now }
 {
-    wire::join_four(src[0], src[1], src[2], src[3]) as u64
+    u64::from(wire::number_in_four(&src.as_chunks::<4>().0[0]))
 }
 
 // Its kind, by number.
@@ -49,22 +30,23 @@ pub(crate) fn numbers_in(src: &[u8], kind: Kind) -> Numbers
     requires { record_length (field_count (kind_number kind)) ≤ length src.now }
     ensures { result ≡ numbers_in (kind_number kind) (fields_in (field_count (kind_number kind)) (drop 6 src.now)) }
 {
+    let words = src[6..].as_chunks::<8>().0;
     let two = Numbers {
         kind: u64::from(kind),
-        first: field(src, 6),
-        second: field(src, 14),
+        first: wire::number_in(&words[0]),
+        second: wire::number_in(&words[1]),
         ..Numbers::default()
     };
     match kind {
         Kind::Halfband => two,
         Kind::Gaussian | Kind::Rrc => Numbers {
-            third: field(src, 22),
+            third: wire::number_in(&words[2]),
             ..two
         },
         Kind::Lowpass | Kind::Spec | Kind::Channelizer => Numbers {
-            third: field(src, 22),
-            fourth: field(src, 30),
-            fifth: field(src, 38),
+            third: wire::number_in(&words[2]),
+            fourth: wire::number_in(&words[3]),
+            fifth: wire::number_in(&words[4]),
             ..two
         },
     }

@@ -95,8 +95,8 @@ pub fn float_of(n: u64) -> f64
     }
 }
 
-// Eight bytes as a number, the lowest first. They are parameters, so that each is known to be below 256; a caller reads
-// them at proved places, without a test.
+// Eight bytes as a number, the lowest first, each a parameter. It stays for what is promised of it: the crates here read
+// by `number_in`.
 pub fn join(a: u8, b: u8, c: u8, d: u8, e: u8, f: u8, g: u8, h: u8) -> u64
     ensures { result ≡ joined a b c d e f g h }
 {
@@ -112,7 +112,14 @@ pub fn number_in(bytes: &[u8; 8]) -> u64
     u64::from_le_bytes(*bytes)
 }
 
-// Four bytes as a number, the lowest first.
+// Four bytes as a number, likewise.
+pub fn number_in_four(bytes: &[u8; 4]) -> u32
+    ensures { result ≡ number_of bytes.now }
+{
+    u32::from_le_bytes(*bytes)
+}
+
+// Four bytes as a number, the lowest first, each a parameter: `ticket_card` reads a kind so, two bytes and zeros.
 pub fn join_four(a: u8, b: u8, c: u8, d: u8) -> u32
     ensures { result ≡ joined_four a b c d }
 {
