@@ -58,8 +58,12 @@ class Source:
                 promised += [found[k].start()] if self.words[k] == "ensures" else []
                 # a clause may have a name, and an attribute of the whole file a `!`
                 k = self.closing(self.words.index("[" if self.words[k] == "#" else "{", k))
-            elif self.words[k] in ("ghost", "use", "mod"):
+            elif self.words[k] in ("use", "mod"):
                 k = self.words.index(";", k)
+            elif self.words[k] == "ghost":
+                # an import or a member of an impl ends in `;`, a field in `,` or with its struct
+                k = self.outside_first(k, ";", ",", "}")
+                k -= self.words[k] == "}"
             else:
                 kept.append(found[k])
             k += 1
@@ -88,6 +92,12 @@ class Source:
             found += [k] if self.words[k] in among else []
             k = self.closing(k) + 1 if self.words[k] in "([{" else k + 1
         return found
+
+    def outside_first(self, k, *among):
+        """The first place from k on, outside of brackets, that holds one of `among`."""
+        while self.words[k] not in among:
+            k = self.closing(k) + 1 if self.words[k] in "([{" else k + 1
+        return k
 
     def parts(self, opens):
         """The parts, between commas, of the brackets that open there."""

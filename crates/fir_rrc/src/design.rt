@@ -99,29 +99,37 @@ fn pulse_at(b: f64, t: f64) -> f64
     slope_of(b, t, x, den)
 }
 
-// Tap k of n before the scaling.
-fn unscaled_at(b: f64, sps: u64, n: u64, k: u64) -> f64
-    requires n_high { n ≤ 2 ^ 24 }
-    requires k_high { k < n }
-    requires sps_high { sps ≤ 2 ^ 24 }
-    ensures { result ≡ unscaled_at b sps n k }
-{
-    let t = ((k as f64) - ((n - 1) as f64) / 2.0) / (sps as f64);
-    pulse_at(b, t)
+// A pulse before the scaling: the roll-off, the samples of a symbol, and how many taps. Both counts are exact as floats.
+#[derive(Clone, Copy)]
+struct Pulse {
+    rolloff: f64,
+    sps: u64,
+    n: u64,
+    ghost sps_high: { sps ≤ 2 ^ 24 },
+    ghost n_high: { n ≤ 2 ^ 24 },
 }
 
-// The energy of the taps before the scaling, by rising index from +0.
-fn energy(b: f64, sps: u64, n: u64) -> f64
-    requires n_high { n ≤ 2 ^ 24 }
-    requires sps_high { sps ≤ 2 ^ 24 }
-    ensures { result ≡ sum_to binary64 (λ k. unscaled_at b sps n k ⊗ unscaled_at b sps n k) n }
-{
-    let mut sum = 0.0;
-    for k in 0..n {
-        let h = unscaled_at(b, sps, n, k);
-        sum = sum + h * h;
+impl Pulse {
+    // Tap k before the scaling.
+    fn unscaled_at(self, k: u64) -> f64
+        requires { k < self.n }
+        ensures { result ≡ unscaled_at self.rolloff self.sps self.n k }
+    {
+        let t = ((k as f64) - ((self.n - 1) as f64) / 2.0) / (self.sps as f64);
+        pulse_at(self.rolloff, t)
     }
-    sum
+
+    // The energy of the taps before the scaling, by rising index from +0.
+    fn energy(self) -> f64
+        ensures { result ≡ sum_to binary64 (λ k. unscaled_at self.rolloff self.sps self.n k ⊗ unscaled_at self.rolloff self.sps self.n k) self.n }
+    {
+        let mut sum = 0.0;
+        for k in 0..self.n {
+            let h = self.unscaled_at(k);
+            sum = sum + h * h;
+        }
+        sum
+    }
 }
 
 impl Rrc {
@@ -134,7 +142,8 @@ impl Rrc {
             return Err(Refusal::Range(Reason::Shape, 0.05, 1.0, rolloff));
         }
         let n = rrc_len(sps, span)?;
-        let norm = 1.0 / math_sqrt::sqrt::sqrt(energy(rolloff, sps, n));
+        let pulse = Pulse { rolloff, sps, n };
+        let norm = 1.0 / math_sqrt::sqrt::sqrt(pulse.energy());
         Ok(Rrc {
             rolloff,
             sps,
@@ -163,7 +172,12 @@ impl Rrc {
             if sps > TAP_LIMIT {
                 return 0.0;
             }
-            unscaled_at(self.rolloff, sps, n, k) * self.norm
+            let pulse = Pulse {
+                rolloff: self.rolloff,
+                sps,
+                n,
+            };
+            pulse.unscaled_at(k) * self.norm
         } else {
             0.0
         }

@@ -9,7 +9,7 @@ ghost use Rattle.verdict.specs.Outcome.{answered, Fills};
 ghost use Rattle.iir_butterworth.specs.Butterworth.{response_taken, order_taken, sections_of, butterworth_of};
 
 use iir_biquad::biquad::{Response, takes_centre};
-use section::section_at;
+use section::Section;
 use verdict::{Reason, Refusal};
 
 // Whether a cascade has this response: low-pass or high-pass.
@@ -33,10 +33,9 @@ fn takes_order(order: u64) -> bool
 
 // How many sections an order has: one for each two poles, and one for the pole that an odd order has left.
 fn sections(order: u64) -> u64
-    requires { order ≤ 8 }
     ensures { result ≡ sections_of order }
 {
-    (order + 1) / 2
+    order.div_ceil(2)
 }
 
 // Stores the five numbers of a section from `at` on.
@@ -91,8 +90,14 @@ pub fn butterworth_sos(
     judge(response, order, cutoff, rate, sos.len() as u64)?;
     let count = sections(order) as usize;
     for i in 0..count {
-        let coefs = section_at(response, order, i as u64, cutoff, rate);
-        put_section(&mut *sos, 5 * i, coefs);
+        let section = Section {
+            response,
+            order,
+            cutoff,
+            rate,
+            i: i as u64,
+        };
+        put_section(&mut *sos, 5 * i, section.numbers());
     }
     Ok(())
 }

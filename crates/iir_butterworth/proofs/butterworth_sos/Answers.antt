@@ -15,16 +15,11 @@ use Rattle.iir_butterworth.specs.Butterworth.{coef_at}
 use Rattle.iir_butterworth.specs.SectionLaws.{section_stored, Right, right, turned}
 use Rattle.iir_butterworth.proofs.butterworth_sos.Goals as goal
 
-pub sections-count-requires : goal.sections-count-requires
-sections-count-requires c =
-    let told : (let a = c.args in Right a.response a.order a.cutoff a.rate (length a.sos.now)) = let a = c.args in right a.response a.order a.cutoff a.rate (length a.sos.now) (sym c.in_ok-judge.was ∙ c.judge.ensures) in
-    told.taken.most
-
 pub loop-i-init : goal.loop-i-init
 loop-i-init c = (omega arith, fill_none _ _)
 
-pub section_at-coefs-requires : goal.section_at-coefs-requires
-section_at-coefs-requires c =
+pub invariant_of-section : goal.invariant_of-section
+invariant_of-section c =
     let told : (let a = c.args in Right a.response a.order a.cutoff a.rate (length a.sos.now)) = let a = c.args in right a.response a.order a.cutoff a.rate (length a.sos.now) (sym c.in_ok-judge.was ∙ c.judge.ensures) in
     let few : c.sections-count.result ≤ 4 = let o = told.taken in
     omega arith in
@@ -64,8 +59,8 @@ loop-i-preserved c =
     let f = coef_at a.response a.order a.cutoff a.rate in (
       omega arith,
       c.put_section.ensures
-          ∙ ap (λ (l : List Float). sets l (5 * c.loop-i.i) c.section_at-coefs.result) c.loop-i.invariant.1
-          ∙ ap (sets (filled (5 * c.loop-i.i) f a.sos.now) (5 * c.loop-i.i)) c.section_at-coefs.ensures
+          ∙ ap (λ (l : List Float). sets l (5 * c.loop-i.i) c.numbers.result) c.loop-i.invariant.1
+          ∙ ap (sets (filled (5 * c.loop-i.i) f a.sos.now) (5 * c.loop-i.i)) c.numbers.ensures
           ∙ section_stored a.response a.order a.cutoff a.rate c.loop-i.i a.sos.now (omega arith),
     )
 

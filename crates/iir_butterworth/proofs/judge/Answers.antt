@@ -23,11 +23,6 @@ returns-then-not-takes_order c =
     let a = c.args in
     sym (ap answered (no_order a.response a.order a.cutoff a.rate a.len past1 (sym c.takes_order.ensures ∙ c.if-not-takes_order.true)))
 
-pub sections-expected-requires : goal.sections-expected-requires
-sections-expected-requires c =
-    let past2 : order_taken c.args.order ≡ true = sym c.takes_order.ensures ∙ c.if-not-takes_order.false in
-    (order_is _ past2).most
-
 pub overflow_mul-expected : goal.overflow_mul-expected
 overflow_mul-expected c =
     let past2 : order_taken c.args.order ≡ true = sym c.takes_order.ensures ∙ c.if-not-takes_order.false in

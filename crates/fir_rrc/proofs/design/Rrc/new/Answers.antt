@@ -14,13 +14,13 @@ returns-then-not-takes_rolloff c =
     let a = c.args in
     sym (no_rolloff a.rolloff a.sps a.span (sym c.takes_rolloff.ensures ∙ c.if-not-takes_rolloff.true))
 
-pub energy-requires : goal.energy-requires
-energy-requires c =
+pub invariant_of-pulse : goal.invariant_of-pulse
+invariant_of-pulse c =
     let a = c.args in
     let f = few a.sps a.span c.in_ok-n.n (sym c.rrc_len.ensures ∙ c.in_ok-n.was) in
     let s = f.samples in
     let t = f.taps in
-    record { n_high = omega arith; sps_high = omega arith }
+    record { sps_high = omega arith; n_high = omega arith }
 
 pub returns : goal.returns
 unfolding of_int of_bits

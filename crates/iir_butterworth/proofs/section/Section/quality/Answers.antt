@@ -1,7 +1,7 @@
--- `iir_butterworth::section::quality` meets its contract. Assumes nothing.
+-- `iir_butterworth::section::Section::quality` meets its contract. Assumes nothing.
 use lib.Ieee.{of_bits, of_int}
 use Rattle.iir_butterworth.specs.Butterworth.{quality_of}
-use Rattle.iir_butterworth.proofs.section.quality.Goals as goal
+use Rattle.iir_butterworth.proofs.section.Section.quality.Goals as goal
 
 pub returns : goal.returns
 unfolding quality_of of_int of_bits
