@@ -95,8 +95,8 @@ pub fn float_of(n: u64) -> f64
     }
 }
 
-// Eight bytes as a number, the lowest first, each a parameter. It stays for what is promised of it: the crates here read
-// by `number_in`.
+// Eight bytes as a number, the lowest first, each a parameter. It stays, being public: the crates here read by
+// `number_in`.
 pub fn join(a: u8, b: u8, c: u8, d: u8, e: u8, f: u8, g: u8, h: u8) -> u64
     ensures { result ≡ joined a b c d e f g h }
 {
