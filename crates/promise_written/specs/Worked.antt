@@ -1,8 +1,9 @@
 -- Records worked out byte by byte, so that what is promised of them is not empty: each kind, a NaN's payload, a beta
 -- that nobody looks at, and what is refused. Assumes nothing.
-use Rattle.std.specs.Prelude.{◌≡◌, refl, List, [], ◌∷◌, ◌++◌, ℕ, replicate, Err, Ok, Result}
+use Rattle.std.specs.Prelude.{◌≡◌, refl, List, [], ◌∷◌, ◌++◌, ◌×◌, ℕ, replicate, Err, Ok, Result}
 use Rattle.wire.specs.Bytes.{bytes_of, number_of}
 use Rattle.win_shapes.specs.declared.cosines.Cosines.{Cosines}
+use Rattle.verdict.specs.Report as Told
 use Rattle.verdict.specs.declared.Refusal.TheVariants.{Plain, Length}
 use Rattle.ticket_kinds.specs.Kinds.{field_count, window_taken, ticket_of, formed_of}
 use Rattle.ticket_kinds.specs.declared.TicketWindow.TheVariants.{Hann, Loaded}
@@ -70,11 +71,12 @@ unused_written = refl
 abbrev written : ℕ → ℕ → ℕ → Result (Unit {0}) Refusal
 written kind window bytes = written_for (formed_of (numbers kind 1 2 window 4 5)) bytes
 
-orders : written 0 4 46 ∷ written 7 4 0 ∷ written 1 4 45 ∷ written 1 3 45 ∷ written 1 3 47 ∷ written 1 3 46 ∷ []
-    ≡ Err (Plain Reason.Kind) ∷ Err (Plain Reason.Kind) ∷ Err (Plain Reason.Code) ∷ Err (Length 46 45) ∷ Err (Length 46 47) ∷ (Ok tt) ∷ []
+orders : (written 0 4 46 ∷ written 7 4 0 ∷ written 1 4 45 ∷ written 1 3 45 ∷ written 1 3 47 ∷ written 1 3 46 ∷ []
+    ≡ Err (Plain Reason.Kind) ∷ Err (Plain Reason.Kind) ∷ Err (Plain Reason.Code) ∷ Err (Length 46 45) ∷ Err (Length 46 47) ∷ (Ok tt) ∷ [])
+    × (Told.number_of Reason.Kind ≡ 13) × (Told.number_of Reason.Code ≡ 7)
 unfolding bytes_of field_bytes write_of formed_of field_count window_taken ticket_of
-orders = refl
+orders = (refl, refl, refl)
 
-loaded_first : (c : Cosines) → write_of (Lowpass (record { cutoff = 1; rate = 2; window = Loaded c; count = 5 })) 45 ≡ Err (Plain Reason.Code)
+loaded_first : (c : Cosines) → (write_of (Lowpass (record { cutoff = 1; rate = 2; window = Loaded c; count = 5 })) 45 ≡ Err (Plain Reason.Code)) × (Told.number_of Reason.Code ≡ 7)
 unfolding write_of
-loaded_first c = refl
+loaded_first c = (refl, refl)

@@ -3,7 +3,8 @@
 #![tactic(auto)]
 
 ghost use Rattle.std.specs.Prelude.{◌≡◌};
-ghost use Rattle.verdict.specs.Report.{number_of, report_of, accepted_of};
+ghost use Rattle.laws.specs.Binary64.{whole};
+ghost use Rattle.verdict.specs.Report.{told, number_of, report_of, accepted_of};
 ghost use Rattle.verdict.specs.Reports.{length_report, judged_report};
 
 // Why a ticket is refused, by the number that C knows; the numbers of the other shapes of a refusal are told apart by
@@ -125,6 +126,27 @@ impl Report {
             ..NOTHING
         }
     }
+
+    // What is told of a refusal by its number alone, whichever that is.
+    pub fn refused(number: u32) -> Report
+        ensures { result ≡ told number 0 (whole 0) (whole 0) (whole 0) 0 0 0 }
+    {
+        Report { number, ..NOTHING }
+    }
+
+    // What is told of a value out of range: a number, whichever that is; smallest, largest and offered value.
+    pub fn out_of_range(number: u32, smallest: f64, largest: f64, offered: f64) -> Report
+        ensures { result ≡ told number 1 smallest largest offered 0 0 0 }
+    {
+        Report {
+            number,
+            carries: 1,
+            smallest,
+            largest,
+            offered,
+            ..NOTHING
+        }
+    }
 }
 
 // What is told of a refusal.
@@ -133,18 +155,10 @@ impl From<Refusal> for Report {
 
     fn from(why: Refusal) -> Report {
         match why {
-            Refusal::Plain(reason) => Report {
-                number: u32::from(reason),
-                ..NOTHING
-            },
-            Refusal::Range(reason, smallest, largest, offered) => Report {
-                number: u32::from(reason),
-                carries: 1,
-                smallest,
-                largest,
-                offered,
-                ..NOTHING
-            },
+            Refusal::Plain(reason) => Report::refused(u32::from(reason)),
+            Refusal::Range(reason, smallest, largest, offered) => {
+                Report::out_of_range(u32::from(reason), smallest, largest, offered)
+            }
             Refusal::Length(expected, given) => Report {
                 number: BAD_LENGTH,
                 carries: 2,
@@ -179,6 +193,8 @@ impl From<Refusal> for Report {
 impl From<Result<u64, Refusal>> for Report {
     ghost from_gives = { λ length report. report ≡ length_report length };
 
+    // Inlined, as the next: an export that tells nothing else has then no call, and no report of its own to copy.
+    #[inline(always)]
     fn from(length: Result<u64, Refusal>) -> Report {
         match length {
             Ok(n) => Report::accepted(n, 0.0),
@@ -191,6 +207,7 @@ impl From<Result<u64, Refusal>> for Report {
 impl From<Result<Judged, Refusal>> for Report {
     ghost from_gives = { λ judged report. report ≡ judged_report judged };
 
+    #[inline(always)]
     fn from(judged: Result<Judged, Refusal>) -> Report {
         match judged {
             Ok(j) => Report::accepted(j.taps, j.divisor),

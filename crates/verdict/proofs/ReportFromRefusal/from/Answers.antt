@@ -6,11 +6,11 @@ use Rattle.verdict.proofs.ReportFromRefusal.from.Goals as goal
 
 pub returns-in-Plain : goal.returns-in-Plain
 unfolding report_of of_int of_bits
-returns-in-Plain c = rw c.from.ensures (sym (rw c.in-Plain.is))
+returns-in-Plain c = rw (c.refused.ensures, c.from.ensures) (sym (rw c.in-Plain.is))
 
 pub returns-in-Range : goal.returns-in-Range
 unfolding report_of of_int of_bits
-returns-in-Range c = rw c.from-in-Range.ensures (sym (rw c.in-Range.is))
+returns-in-Range c = rw (c.out_of_range.ensures, c.from-in-Range.ensures) (sym (rw c.in-Range.is))
 
 pub returns-in-Length : goal.returns-in-Length
 unfolding report_of of_int of_bits

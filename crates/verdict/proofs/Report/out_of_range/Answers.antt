@@ -1,0 +1,8 @@
+-- `verdict::Report::out_of_range` meets its contract. Assumes nothing.
+use Rattle.std.proofs.Common.{refl}
+use lib.Ieee.{of_int, of_bits}
+use Rattle.verdict.proofs.Report.out_of_range.Goals as goal
+
+pub returns : goal.returns
+unfolding of_int of_bits
+returns c = refl
