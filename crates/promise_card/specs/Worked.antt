@@ -1,6 +1,6 @@
 -- Readings of a few records, worked out: each refusal in its order, an unused beta, a NaN's payload, a card of two
 -- tickets. Assumes nothing.
-use Rattle.std.specs.Prelude.{◌≡◌, refl, List, [], ◌∷◌, ◌++◌, ◌×◌, ℕ, length, take, Err, Result}
+use Rattle.std.specs.Prelude.{◌≡◌, refl, List, [], ◌∷◌, ◌++◌, ℕ, length, take, Err, Result}
 use Rattle.std.proofs.Common.{lit<}
 use Rattle.wire.specs.Bytes.{bytes_of, number_of}
 use Rattle.verdict.specs.Report as Told

@@ -1,6 +1,6 @@
 -- Records worked out byte by byte, so that what is promised of them is not empty: each kind, a NaN's payload, a beta
 -- that nobody looks at, and what is refused. Assumes nothing.
-use Rattle.std.specs.Prelude.{◌≡◌, refl, List, [], ◌∷◌, ◌++◌, ◌×◌, ℕ, replicate, Err, Ok, Result}
+use Rattle.std.specs.Prelude.{◌≡◌, refl, List, [], ◌∷◌, ◌++◌, ℕ, replicate, Err, Ok, Result}
 use Rattle.wire.specs.Bytes.{bytes_of, number_of}
 use Rattle.win_shapes.specs.declared.cosines.Cosines.{Cosines}
 use Rattle.verdict.specs.Report as Told
