@@ -9,6 +9,7 @@ use Rattle.verdict.specs.declared.Report.{Report}
 use Rattle.verdict.specs.Report.{report_of, accepted_of}
 use Rattle.math_bessel.specs.declared.Series.{Series}
 use Rattle.fir_length.specs.declared.order.Order.{Order}
+use Rattle.fir_delay.specs.declared.HalfSamples.{HalfSamples}
 use Rattle.verdict.specs.declared.Refusal.{Refusal}
 
 -- taps and beta
@@ -17,8 +18,8 @@ order_report (Ok o) = accepted_of o.taps o.beta
 order_report (Err why) = report_of why
 
 -- half samples
-abbrev pub delay_report : Result ℕ Refusal → Report
-delay_report (Ok n) = accepted_of n (whole 0)
+abbrev pub delay_report : Result HalfSamples Refusal → Report
+delay_report (Ok h) = accepted_of h.count (whole 0)
 delay_report (Err why) = report_of why
 
 -- a Q15 or Q14 number

@@ -32,5 +32,8 @@ pub fn pel_halfband_len(transition: f64, attenuation: f64, rate: f64) -> Report
 pub fn pel_delay(taps: u64) -> Report
     ensures { result ≡ delay_report (delay_of taps) }
 {
-    Report::from(fir_delay::delay(taps))
+    match fir_delay::delay(taps) {
+        Ok(half) => Report::accepted(half.count, 0.0),
+        Err(why) => Report::from(why),
+    }
 }

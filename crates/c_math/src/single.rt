@@ -13,7 +13,8 @@ pub fn pel_q15_from_f64(x: f64) -> i16
     fmt_q15::q15::q15_from_f64(x)
 }
 
-// A number as the value, or why there is none.
+// A number as the value, or why there is none. Inlined: an export then has no call, and no report of its own to copy.
+#[inline(always)]
 fn told(c: Result<i16, Refusal>) -> Report
     ensures { result ≡ coded_report c }
 {

@@ -11,6 +11,7 @@ use Rattle.verdict.specs.Reports.{length_report, outcome_report, done_report}
 use Rattle.verdict.specs.Outcome.{Outcome, answered}
 use Rattle.verdict.specs.declared.Refusal.{Refusal}
 use Rattle.fir_length.specs.declared.order.Order.{Order}
+use Rattle.fir_delay.specs.declared.HalfSamples.{HalfSamples}
 use Rattle.math_bessel.specs.declared.Series.{Series}
 use Rattle.c_math.specs.Reports.{order_report, delay_report, coded_report, unsettled_of, series_report}
 use Rattle.c_cosines.specs.Loads.{answer_of}
@@ -84,9 +85,9 @@ unfolding accepted_of
 order_heard (Ok o) = refl
 order_heard (Err why) = refl
 
-pub delay_heard : (d : Result ℕ Refusal) → (delay_report d).number ≡ heard (of_delay d)
+pub delay_heard : (d : Result HalfSamples Refusal) → (delay_report d).number ≡ heard (of_delay d)
 unfolding accepted_of
-delay_heard (Ok n) = refl
+delay_heard (Ok h) = refl
 delay_heard (Err why) = refl
 
 pub coded_heard : (c : Result ℤ Refusal) → (coded_report c).number ≡ heard (of_coded c)

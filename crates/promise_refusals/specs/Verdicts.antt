@@ -4,6 +4,7 @@ use Rattle.std.specs.Prelude.{ℕ, ◌-◌, ◌%◌, cond, List, eqb, length, Er
 use Rattle.verdict.specs.declared.Refusal.TheVariants as Refusal
 use Rattle.math_bessel.specs.declared.Series.{Series}
 use Rattle.fir_length.specs.declared.order.Order.{Order}
+use Rattle.fir_delay.specs.declared.HalfSamples.{HalfSamples}
 use Rattle.verdict.specs.declared.Refusal.{Refusal}
 use Rattle.win_shapes.specs.declared.cosines.Cosines.{Cosines}
 use Rattle.verdict.specs.declared.Reason.TheVariants as Reason
@@ -17,8 +18,8 @@ abbrev pub of_order : Result Order Refusal → Result (Unit {0}) Refusal
 of_order (Ok o) = Ok tt
 of_order (Err why) = Err why
 
-abbrev pub of_delay : Result ℕ Refusal → Result (Unit {0}) Refusal
-of_delay (Ok n) = Ok tt
+abbrev pub of_delay : Result HalfSamples Refusal → Result (Unit {0}) Refusal
+of_delay (Ok h) = Ok tt
 of_delay (Err why) = Err why
 
 abbrev pub of_coded : Result ℤ Refusal → Result (Unit {0}) Refusal

@@ -6,10 +6,10 @@ use native.Mathlib.Omega.{arith}
 use Rattle.fir_delay.specs.Delay.{delay_of}
 use Rattle.fir_delay.proofs.delay.Goals as goal
 
-some : (n : ℕ) → (n ≡ 0 → ⊥) → Ok (n - 1) ≡ delay_of n
+some : (n : ℕ) → (n ≡ 0 → ⊥) → Ok (record { count = n - 1 }) ≡ delay_of n
 unfolding delay_of
 some zero h = absurd (h refl)
-some (suc n) h = ap Ok (go n)
+some (suc n) h = ap (λ (m : ℕ). Ok (record { count = m })) (go n)
   where
     go : (n : ℕ) → suc n - 1 ≡ n
     go n = omega arith
