@@ -1,3 +1,5 @@
 pub mod Agrees
 pub mod Digits
+pub mod Kinds
+pub mod Told
 pub mod Words

@@ -1,4 +1,5 @@
 // The kinds of lines: each is a function whose answers the list has.
+ghost use Rattle.replay_lines.specs.Kinds.{NamesKind};
 
 // A kind's number stands at the front of its lines.
 #[derive(Clone, Copy)]
@@ -110,6 +111,8 @@ pub struct UnknownKind;
 
 impl TryFrom<usize> for Kind {
     type Error = UnknownKind;
+
+    ghost try_from_gives = { NamesKind };
 
     fn try_from(number: usize) -> Result<Kind, UnknownKind> {
         let mut kinds = NAMES.iter().map(|(kind, _)| *kind);

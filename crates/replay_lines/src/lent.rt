@@ -1,21 +1,23 @@
 // The buffer that an export writes to: a part of it is lent, and all of it is looked at afterwards.
 ghost use Rattle.std.specs.Prelude.{◌≤◌, IfSome};
+ghost use Rattle.std.specs.Option.{SomeIff};
 
 // The longest part that a line may ask for.
-const LENT: u64 = 4096;
+pub const LENT: u64 = 4096;
 
 // The buffer's own length: a tap more, so that there are always bytes beyond the lent part.
 pub const ROOM: usize = 4104;
 
 // What every byte is before the call.
-pub const MARK: u8 = 0xA5;
+pub(crate) const MARK: u8 = 0xA5;
 
 // The most elements that a buffer of a line has: taps, samples or numbers.
 pub const ELEMENTS: usize = 32;
 
 // How many bytes to lend where a line asks for so many.
 pub fn length(asked: u64) -> Option<usize>
-    ensures { IfSome result (λ n. n ≤ 4096) }
+    ensures given { SomeIff result (asked ≤ 4096) asked }
+    ensures room { IfSome result (λ n. n ≤ 4096) }
 {
     if asked > LENT {
         return None;

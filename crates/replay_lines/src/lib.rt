@@ -3,7 +3,7 @@
 
 pub mod converted;
 pub mod kind;
-mod lent;
+pub mod lent;
 pub mod line;
 pub mod offered;
 pub mod pattern;

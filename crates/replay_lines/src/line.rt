@@ -1,21 +1,24 @@
 // A line of the list, taken apart: a kind in decimal, then words of 16 hexadecimal digits, each after one space.
-ghost use Rattle.std.specs.Prelude.{◌≡◌, ◌<◌, IfSome};
+ghost use Rattle.std.specs.Prelude.{◌≡◌, ◌-◌, ◌<◌, length, take, IfSome, ◌==◌};
+ghost use Rattle.std.specs.List.{before_first};
+ghost use Rattle.std.specs.Str.Parse.{digits_value};
 ghost use Rattle.replay_lines.specs.Digits.{digit_of};
+ghost use Rattle.replay_lines.specs.Kinds.{kind_number};
 ghost use Rattle.replay_lines.specs.Words.{word_at};
 
 use crate::kind::Kind;
 use arrayvec::ArrayVec;
 
 // The most words that a line has.
-const WORDS: usize = 96;
+pub const WORDS: usize = 96;
 
 // A space and 16 digits.
 const STEP: usize = 17;
 
 // The room for a line: at most three digits of a kind, the words and the newline.
-pub(crate) const TEXT: usize = 3 + WORDS * STEP + 1;
+pub const TEXT: usize = 3 + WORDS * STEP + 1;
 
-#[derive(Drop)]
+#[derive(Clone, Drop)]
 pub struct Line {
     pub kind: Kind,
     pub words: ArrayVec<u64, WORDS>,
@@ -62,7 +65,10 @@ fn read_words(text: &[u8]) -> Option<ArrayVec<u64, WORDS>> {
 }
 
 // The kind whose number the text is, with no zero in front.
-fn read_kind(text: &[u8]) -> Option<Kind> {
+fn read_kind(text: &[u8]) -> Option<Kind>
+    ensures value { IfSome result (λ kind. kind_number kind ≡ digits_value 10 text.now) }
+    ensures small { IfSome result (λ kind. kind_number kind < 1000) }
+{
     let [b'1'..=b'9', ..] = text else {
         return None;
     };
@@ -71,7 +77,11 @@ fn read_kind(text: &[u8]) -> Option<Kind> {
 }
 
 // The line, where it is whole and can be read.
-pub fn take_apart(text: &[u8]) -> Option<Line> {
+pub fn take_apart(text: &[u8]) -> Option<Line>
+    ensures number { IfSome result (λ line. kind_number line.kind
+        ≡ digits_value 10 (before_first (λ b. b == 32) (take (length text.now - 1) text.now))) }
+    ensures small { IfSome result (λ line. kind_number line.kind < 1000) }
+{
     let [line @ .., b'\n'] = text else {
         return None;
     };

@@ -4,7 +4,7 @@ use arrayvec::ArrayVec;
 use std::io::Read;
 
 // How many bytes are read at once.
-const CHUNK: usize = 4096;
+pub const CHUNK: usize = 4096;
 
 // Hands each line to take, with its newline. A byte for which a line has no room is dropped, so that a line that is too
 // long has no newline, as what stands at the end of the input without one: neither can be read. A proved loop has to

@@ -33,15 +33,24 @@ impl fmt::Display for Count {
 }
 
 // How many lines there were, and what they came to, all and by the numbers of their kinds.
-#[derive(Default, Drop)]
+#[derive(Clone, Copy, Default)]
 pub struct Tally {
-    lines: u64,
-    unreadable: u64,
-    all: Count,
+    pub lines: u64,
+    pub answers: u64,
+    pub differ: u64,
+    pub unreadable: u64,
     kinds: [Count; KINDS],
 }
 
 impl Tally {
+    // Those of all kinds.
+    fn all(&self) -> Count {
+        Count {
+            answers: self.answers,
+            differ: self.differ,
+        }
+    }
+
     // One line more: its kind and whether the answers are the same, or that it cannot be read. What cannot be written
     // is lost, and the run goes on: whoever holds its output to what is wanted finds it missing.
     pub fn note(&mut self, rt: &impl Print, judged: Option<(Kind, bool)>) {
@@ -52,10 +61,13 @@ impl Tally {
             self.unreadable = self.unreadable.wrapping_add(1);
             return;
         };
-        if !is_same && self.all.differ < NAMED {
+        if !is_same && self.differ < NAMED {
             let _ = println!(rt; "line {line} differs");
         }
-        self.all.add(is_same);
+        let mut all = self.all();
+        all.add(is_same);
+        self.answers = all.answers;
+        self.differ = all.differ;
         self.kinds[kind as usize].add(is_same);
     }
 
@@ -65,7 +77,7 @@ impl Tally {
             let count = self.kinds[*kind as usize];
             let _ = println!(rt; "{name}: {count}");
         }
-        let all = self.all;
+        let all = self.all();
         let unreadable = self.unreadable;
         let _ = println!(rt; "{all}, {unreadable} unreadable lines");
     }

@@ -1,9 +1,12 @@
 // An answer held to the words that a line has for it, which stand in the order of its fields.
+ghost use Rattle.std.specs.Prelude.{◌≡◌};
+ghost use Rattle.replay_lines.specs.Told.{has_word, have_words, fields_judged};
+
 use crate::pattern::agrees;
 use verdict::Report;
 
 // The words of a report.
-pub(crate) const FIELDS: usize = 10;
+pub const FIELDS: usize = 10;
 
 // A field of an answer. A number is its word, and a float has it for its pattern.
 #[derive(Clone, Copy)]
@@ -13,7 +16,9 @@ pub enum Field {
 }
 
 impl Field {
-    fn has(self, word: u64) -> bool {
+    fn has(self, word: u64) -> bool
+        ensures { result ≡ has_word self word }
+    {
         match self {
             Field::Number(n) => n == word,
             Field::Float(x) => agrees(x, word),
@@ -37,7 +42,9 @@ fn fields(r: Report) -> [Field; FIELDS] {
 }
 
 // Has each field the word in its place?
-fn have(fields: &[Field], words: &[u64]) -> bool {
+fn have(fields: &[Field], words: &[u64]) -> bool
+    ensures { result ≡ have_words fields.now words.now }
+{
     fields
         .iter()
         .zip(words)
@@ -45,12 +52,14 @@ fn have(fields: &[Field], words: &[u64]) -> bool {
 }
 
 // Is r the report that the words tell?
-pub(crate) fn is_told(r: Report, words: &[u64; FIELDS]) -> bool {
+pub fn is_told(r: Report, words: &[u64; FIELDS]) -> bool {
     have(&fields(r), words)
 }
 
 // Whether these are the fields of the answer that ends a line.
-pub fn judge_fields(fields: &[Field], words: &[u64]) -> Option<bool> {
+pub fn judge_fields(fields: &[Field], words: &[u64]) -> Option<bool>
+    ensures { result ≡ fields_judged fields.now words.now }
+{
     if fields.len() != words.len() {
         return None;
     }
