@@ -27,7 +27,8 @@ pub fn pel_biquad_coefs(response: u64, centre: f64, q: f64, rate: f64, out: &mut
     if len != 40 {
         return Report::from(Refusal::Length(40, len));
     }
-    write_coefs(biquad_coefs(known, centre, q, rate), &mut *out)
+    let b = biquad_coefs(known, centre, q, rate);
+    write_coefs(b.verdict, b.coefs, &mut *out)
 }
 
 // Fills 24 bytes with the coefficients of pre-emphasis for a time constant tau in seconds at a rate: b0, b1, a1 with a0
@@ -42,5 +43,6 @@ pub fn pel_preemphasis_coefs(tau: f64, rate: f64, out: &mut [u8]) -> Report
     if len != 24 {
         return Report::from(Refusal::Length(24, len));
     }
-    write_coefs(preemphasis_coefs(tau, rate), &mut *out)
+    let p = preemphasis_coefs(tau, rate);
+    write_coefs(p.verdict, p.coefs, &mut *out)
 }

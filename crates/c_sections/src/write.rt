@@ -9,7 +9,7 @@ use verdict::{Refusal, Report};
 // Writes the numbers, eight bytes each, and tells how many.
 pub(crate) fn write_numbers(numbers: &[f64], out: &mut [u8]) -> Report
     requires { length out.old ≡ 8 * length numbers.now }
-    ensures { Writes float_bytes (numbers_of (Ok numbers.now)) out.old result out.new }
+    ensures { Writes float_bytes (numbers_of (Ok tt) numbers.now) out.old result out.new }
 {
     let n = numbers.len();
     for i in 0..n {
@@ -20,14 +20,15 @@ pub(crate) fn write_numbers(numbers: &[f64], out: &mut [u8]) -> Report
 
 // Writes the N numbers of a filter that is taken, and tells how many, or why it isn't.
 pub(crate) fn write_coefs<const N: usize>(
-    coefs: Result<[f64; N], Refusal>,
+    verdict: Result<(), Refusal>,
+    coefs: [f64; N],
     out: &mut [u8],
 ) -> Report
     requires { length out.old ≡ 8 * N }
-    ensures { Writes float_bytes (numbers_of coefs.entry) out.old result out.new }
+    ensures { Writes float_bytes (numbers_of verdict coefs.entry) out.old result out.new }
 {
-    match coefs {
-        Ok(numbers) => write_numbers(&numbers, &mut *out),
+    match verdict {
+        Ok(()) => write_numbers(&coefs, &mut *out),
         Err(why) => Report::from(why),
     }
 }

@@ -2,7 +2,7 @@
 --   w0 = 2 π f0/fs,  c = cos w0,  alpha = sin w0 / (2 q);  a = (1 + alpha, −2 c, 1 − alpha)
 --   low-pass b = ((1 − c)/2, 1 − c, (1 − c)/2);  high-pass ((1 + c)/2, −(1 + c), (1 + c)/2);  band-pass (alpha, 0,
 --   −alpha);  notch (1, −2 c, 1)
-use Rattle.std.specs.Prelude.{Bool, false, cond, ◌&&◌, List, [], ◌∷◌, Float, Err, Ok, Result}
+use Rattle.std.specs.Prelude.{Bool, false, cond, ◌&&◌, List, [], ◌∷◌, Float, Err, Ok}
 use Rattle.std.specs.Float.{inf}
 use Rattle.std.specs.Float.Ieee.{neg, lt}
 use Rattle.std.specs.Float.Ieee.Scale.{finite}
@@ -11,7 +11,7 @@ use Rattle.math_trig.specs.Trig.{sin_of, cos_of}
 use Rattle.verdict.specs.declared.Refusal.TheVariants.{Range}
 use Rattle.iir_biquad.specs.declared.biquad.Response.{Response}
 use Rattle.iir_biquad.specs.declared.biquad.Response.TheVariants.{Lowpass, Highpass, Bandpass, Notch}
-use Rattle.verdict.specs.declared.Refusal.{Refusal}
+use Rattle.iir_biquad.specs.declared.biquad.Biquad.{Biquad}
 use Rattle.verdict.specs.declared.Reason.TheVariants as Reason
 
 -- ---- the judgement
@@ -45,16 +45,16 @@ joined (x ∷ xs) ys = x ∷ joined xs ys
 unfoldable pub section_of : Response → Float → Float → List Float
 section_of r c alpha = over (joined (numerator r c alpha) (neg (whole 2) ⊗ c ∷ (whole 1 ⊖ alpha) ∷ [])) (whole 1 ⊕ alpha)
 
--- what stands for a section that is refused
+-- the numbers of a section that is refused
 abbrev pub zeros : List Float
 zeros = whole 0 ∷ whole 0 ∷ whole 0 ∷ whole 0 ∷ whole 0 ∷ []
 
-unfoldable pub biquad_of : Response → Float → Float → Float → Result (List Float) Refusal
+unfoldable pub biquad_of : Response → Float → Float → Float → Biquad
 unfolding centre_taken quality_taken section_of
 biquad_of r centre q rate =
     let w0 = w0_of centre rate in
     cond (centre_taken centre rate)
     (cond (quality_taken q)
-    (Ok (section_of r (cos_of w0) (sin_of w0 ⊘ (whole 2 ⊗ q))))
-    (Err (Range Reason.Shape (whole 0) (inf false) q)))
-    (Err (Range Reason.Frequency (whole 0) (rate ⊘ whole 2) centre))
+    (record { coefs = section_of r (cos_of w0) (sin_of w0 ⊘ (whole 2 ⊗ q)); verdict = Ok tt })
+    (record { coefs = zeros; verdict = Err (Range Reason.Shape (whole 0) (inf false) q) }))
+    (record { coefs = zeros; verdict = Err (Range Reason.Frequency (whole 0) (rate ⊘ whole 2) centre) })

@@ -5,7 +5,6 @@
 use Rattle.std.specs.Prelude.{ℕ, ◌+◌, ◌*◌, ◌/◌, ◌%◌, Bool, true, false, cond, ◌&&◌, List, [], ◌∷◌, eqb, leb, get_or, Float}
 use Rattle.std.specs.Float.{nan}
 use Rattle.std.specs.Float.Ieee.{neg}
-use Rattle.std.specs.Result.{result_unwrap_or}
 use Rattle.laws.specs.Binary64.{◌⊕◌, ◌⊖◌, ◌⊗◌, ◌⊘◌, whole, pi}
 use Rattle.math_trig.specs.Trig.{sin_of, cos_of}
 use Rattle.verdict.specs.declared.Refusal.TheVariants.{Plain, Range, Length}
@@ -53,7 +52,7 @@ section_at r order cutoff rate i =
     let w0 = w0_of cutoff rate in
     cond (eqb order (2 * i + 1))
     (first_order_of r (sin_of w0) (whole 1 ⊕ cos_of w0))
-    (result_unwrap_or (biquad_of r cutoff (quality_of order i) rate) zeros)
+    (biquad_of r cutoff (quality_of order i) rate).coefs
 
 -- number j of all sections
 abbrev pub coef_at : Response → ℕ → Float → Float → ℕ → Float

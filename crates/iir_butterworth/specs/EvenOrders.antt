@@ -4,12 +4,11 @@ use Rattle.std.specs.Prelude.{ℕ, ◌+◌, ◌*◌, ◌/◌, ◌%◌, ◌≤◌
 use Rattle.std.proofs.Common.{ap, arith, leb-true, eq-eqb, ne_eqb}
 use Rattle.std.proofs.Math.Path.{fun_ext}
 use Rattle.std.specs.Float.{nan}
-use Rattle.std.specs.Result.{result_unwrap_or}
 use Rattle.laws.specs.Binary64.{◌⊖◌, ◌⊗◌, ◌⊘◌, whole, pi}
 use Rattle.math_trig.specs.Trig.{cos_of}
 use Rattle.verdict.specs.declared.Refusal.TheVariants.{Plain, Range, Length}
 use Rattle.verdict.specs.Outcome.{Outcome}
-use Rattle.iir_biquad.specs.Biquad.{centre_taken, biquad_of, zeros}
+use Rattle.iir_biquad.specs.Biquad.{centre_taken, biquad_of}
 use Rattle.iir_biquad.specs.declared.biquad.Response.{Response}
 use Rattle.iir_butterworth.specs.Butterworth.{response_taken, order_taken, sections_of, angle_of, quality_of, section_at, coef_at, butterworth_of}
 use Rattle.verdict.specs.declared.Reason.TheVariants as Reason
@@ -22,7 +21,7 @@ abbrev even_quality : ℕ → ℕ → Float
 even_quality order i = whole 1 ⊘ (whole 2 ⊗ cos_of ((whole 2 ⊗ whole (i + 1) ⊖ whole 1) ⊗ pi ⊘ (whole 2 ⊗ whole order)))
 
 abbrev even_at : Response → ℕ → Float → Float → ℕ → Float
-even_at r order cutoff rate j = get_or (result_unwrap_or (biquad_of r cutoff (even_quality order (j / 5)) rate) zeros) (j % 5) nan
+even_at r order cutoff rate j = get_or (biquad_of r cutoff (even_quality order (j / 5)) rate).coefs (j % 5) nan
 
 unfoldable pub even_of : Response → ℕ → Float → Float → ℕ → Outcome
 even_of r order cutoff rate len =

@@ -1,12 +1,11 @@
 -- Laws of sections: every section has five numbers, they are stored one after the other, and every quality of a
 -- Butterworth filter is taken. Assumes nothing.
-use Rattle.std.specs.Prelude.{ℕ, zero, suc, ◌+◌, ◌*◌, ◌/◌, ◌%◌, ◌<◌, ◌≤◌, ◌≡◌, refl, Bool, true, false, cond, List, [], ◌∷◌, leb, eqb, length, set, take, get_or, Float, Err, Ok, Result}
+use Rattle.std.specs.Prelude.{ℕ, zero, suc, ◌+◌, ◌*◌, ◌/◌, ◌%◌, ◌<◌, ◌≤◌, ◌≡◌, refl, Bool, true, false, cond, List, [], ◌∷◌, leb, eqb, length, set, take, get_or, Float, Err, Ok}
 use Rattle.std.proofs.Common.{sym, ap, ◌∙◌, not-suc-le-zero, le_of_suc-le-suc, zero-lt-suc, arith, leb-true, eqb-true}
 use Rattle.std.proofs.Math.Nat.{suc-le-suc_iff}
 use Rattle.std.proofs.lemmas.List.Edits.{sets}
 use Rattle.std.specs.Float.{nan}
 use Rattle.std.specs.Float.Ieee.{of_bits, of_int, round, add, sub, mul, div, neg, lt, le}
-use Rattle.std.specs.Result.{result_unwrap_or}
 use Rattle.laws.specs.Binary64.{◌⊗◌, ◌⊘◌, whole, fact, over, nested}
 use Rattle.laws.specs.Every.{every, every_at}
 use Rattle.laws.specs.Filled.{filled, fill_more}
@@ -17,10 +16,11 @@ use Rattle.math_trig.specs.Trig.{sin_of, cos_of}
 use Rattle.verdict.specs.Outcome.{Outcome, answered}
 use Rattle.verdict.specs.declared.Refusal.{Refusal}
 use Rattle.verdict.specs.declared.Refusal.TheVariants.{Plain, Range, Length}
-use Rattle.iir_biquad.specs.Biquad.{centre_taken, quality_taken, w0_of, section_of, biquad_of, zeros}
+use Rattle.iir_biquad.specs.Biquad.{centre_taken, quality_taken, w0_of, section_of, biquad_of}
 use Rattle.iir_butterworth.specs.Butterworth.{response_taken, order_taken, sections_of, angle_of, quality_of, first_order_of, section_at, coef_at, butterworth_of}
 use Rattle.iir_biquad.specs.declared.biquad.Response.{Response}
 use Rattle.iir_biquad.specs.declared.biquad.Response.TheVariants.{Lowpass, Highpass, Bandpass, Notch}
+use Rattle.iir_biquad.specs.declared.biquad.Biquad.{Biquad}
 use Rattle.laws.specs.Cases.{either_way}
 use Rattle.laws.specs.Results.{refused_never}
 use Rattle.verdict.specs.declared.Reason.TheVariants as Reason
@@ -62,10 +62,10 @@ section_five Highpass c alpha = refl
 section_five Bandpass c alpha = refl
 section_five Notch c alpha = refl
 
-coefs_five : (r : Response) (centre q rate : Float) → length (result_unwrap_or (biquad_of r centre q rate) zeros) ≡ 5
+coefs_five : (r : Response) (centre q rate : Float) → length (biquad_of r centre q rate).coefs ≡ 5
 unfolding biquad_of
 coefs_five r centre q rate =
-    let five : Result (List Float) Refusal → Type 0 = λ b. length (result_unwrap_or b zeros) ≡ 5 in
+    let five : Biquad → Type 0 = λ b. length b.coefs ≡ 5 in
     either_way five (centre_taken centre rate) _ _ (either_way five (quality_taken q) _ _ (section_five r _ _) refl) refl
 
 first_order_five : (r : Response) (s d : Float) → length (first_order_of r s d) ≡ 5
@@ -115,7 +115,7 @@ quality_taken_lem order i t h =
     every_at (order / 2) (λ k. quality_taken (quality_of order k)) (every_at 9 (λ n. every (n / 2) (λ k. quality_taken (quality_of n k))) sixteen order (omega arith)) i (omega arith)
 
 -- so each section of two poles is the section of its quality, and none is refused
-pub never_refused : (r : Response) (order i : ℕ) (cutoff rate : Float) → order_taken order ≡ true → 2 * i + 2 ≤ order → centre_taken cutoff rate ≡ true → let w0 = w0_of cutoff rate in biquad_of r cutoff (quality_of order i) rate ≡ Ok (section_of r (cos_of w0) (sin_of w0 ⊘ (whole 2 ⊗ quality_of order i)))
+pub never_refused : (r : Response) (order i : ℕ) (cutoff rate : Float) → order_taken order ≡ true → 2 * i + 2 ≤ order → centre_taken cutoff rate ≡ true → let w0 = w0_of cutoff rate in biquad_of r cutoff (quality_of order i) rate ≡ record { coefs = section_of r (cos_of w0) (sin_of w0 ⊘ (whole 2 ⊗ quality_of order i)); verdict = Ok tt }
 unfolding biquad_of
 never_refused r order i cutoff rate t h c = rw (c, quality_taken_lem order i t h)
 

@@ -62,6 +62,7 @@ impl Section {
             let s = math_trig::sin::sin(w0);
             return first_order(self.response, s, 1.0 + math_trig::cos::cos(w0));
         }
-        biquad_coefs(self.response, self.cutoff, self.quality(), self.rate).unwrap_or([0.0; 5])
+        let b = biquad_coefs(self.response, self.cutoff, self.quality(), self.rate);
+        b.coefs
     }
 }

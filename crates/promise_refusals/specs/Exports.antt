@@ -14,6 +14,8 @@ use Rattle.fir_halfband.specs.Halfband as Halfband
 use Rattle.fir_gaussian.specs.Gaussian as Gaussian
 use Rattle.fir_rrc.specs.Rrc as Rrc
 use Rattle.fir_channelizer.specs.Channelizer as Channelizer
+use Rattle.iir_biquad.specs.Biquad.{biquad_of}
+use Rattle.iir_biquad.specs.Preemphasis.{preemphasis_of}
 use Rattle.iir_biquad.specs.declared.biquad.Response.{Response}
 use Rattle.iir_butterworth.specs.Butterworth.{butterworth_of}
 use Rattle.win_sampled.specs.Shapes.{judgement_of}
@@ -27,7 +29,7 @@ use Rattle.c_retune.specs.DesignsLaws.{lowpass_has, cutoff_has, beta_has}
 use Rattle.c_retune.specs.declared.record.Design.{Design}
 use Rattle.c_cosines.specs.Loads.{numbers_in, load_bytes}
 use Rattle.c_pulses.specs.Buffers.{halfband_bytes, gaussian_bytes, rrc_bytes}
-use Rattle.c_sections.specs.Numbers.{biquad_bytes, preemphasis_bytes, butterworth_bytes}
+use Rattle.c_sections.specs.Numbers.{numbers_of, biquad_bytes, preemphasis_bytes, butterworth_bytes}
 use Rattle.c_windows.specs.Samples.{width_of, window_bytes}
 use Rattle.c_windows.specs.declared.sample.Sample.{Sample}
 use Rattle.promise_refusals.specs.Demand.{listed}
@@ -87,14 +89,18 @@ pub rrc_bytes_lem : (rolloff : Float) (sps span len : ℕ) → Listed (answered 
 rrc_bytes_lem rolloff sps span len = whole_listed 8 len _ (rrc_fitted_listed (Rrc.rrc_of rolloff sps span) (len / 8) (rrc_listed rolloff sps span))
 
 -- ---- sections
+numbers_listed : (v : Result (Unit {0}) Refusal) (xs : List Float) → Listed v → Listed (answered (numbers_of v xs))
+numbers_listed (Ok tt) xs l = tt
+numbers_listed (Err why) xs l = l
+
 pub biquad_bytes_lem : (c : Option Response) (centre q rate : Float) (len : ℕ) → Listed (answered (biquad_bytes c centre q rate len))
 unfolding report_of listed
-biquad_bytes_lem (Some r) centre q rate len = either_way (λ (o : Outcome). Listed (answered o)) (eqb len 40) _ _ (biquad_listed r centre q rate) tt
+biquad_bytes_lem (Some r) centre q rate len = either_way (λ (o : Outcome). Listed (answered o)) (eqb len 40) _ _ (numbers_listed (biquad_of r centre q rate).verdict (biquad_of r centre q rate).coefs (biquad_listed r centre q rate)) tt
 biquad_bytes_lem None centre q rate len = tt
 
 pub preemphasis_bytes_lem : (tau rate : Float) (len : ℕ) → Listed (answered (preemphasis_bytes tau rate len))
 unfolding report_of listed
-preemphasis_bytes_lem tau rate len = either_way (λ (o : Outcome). Listed (answered o)) (eqb len 24) _ _ (preemphasis_listed tau rate) tt
+preemphasis_bytes_lem tau rate len = either_way (λ (o : Outcome). Listed (answered o)) (eqb len 24) _ _ (numbers_listed (preemphasis_of tau rate).verdict (preemphasis_of tau rate).coefs (preemphasis_listed tau rate)) tt
 
 pub butterworth_bytes_lem : (c : Option Response) (order : ℕ) (cutoff rate : Float) (len : ℕ) → Listed (answered (butterworth_bytes c order cutoff rate len))
 unfolding report_of listed

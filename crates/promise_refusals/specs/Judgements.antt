@@ -36,11 +36,12 @@ use Rattle.fir_rrc.specs.Rrc as Rrc
 use Rattle.fir_channelizer.specs.Channelizer as Channelizer
 use Rattle.iir_biquad.specs.Biquad.{centre_taken, quality_taken, biquad_of}
 use Rattle.iir_biquad.specs.Preemphasis.{constant_taken, rate_taken, preemphasis_of}
+use Rattle.iir_biquad.specs.declared.biquad.Biquad.{Biquad}
 use Rattle.iir_biquad.specs.declared.biquad.Response.{Response}
+use Rattle.iir_biquad.specs.declared.preemphasis.Preemphasis.{Preemphasis}
 use Rattle.iir_butterworth.specs.Butterworth.{response_taken, order_taken, sections_of, butterworth_of}
 use Rattle.win_cosines.specs.Load.{numbers_taken, load_of}
 use Rattle.win_cosines.specs.Load as Load
-use Rattle.c_sections.specs.Numbers.{numbers_of}
 use Rattle.c_formats.specs.Format.{Format}
 use Rattle.c_formats.specs.Formats.{takes_of, outside_of}
 use Rattle.c_formats.specs.Conversions.{lengths_of}
@@ -238,16 +239,16 @@ channelizer_fitted_listed (Ok l) len x = either_way LowpassListed (eqb l.n len) 
 channelizer_fitted_listed (Err why) len x = x
 
 -- ---- sections
-pub biquad_listed : (r : Response) (centre q rate : Float) → Listed (answered (numbers_of (biquad_of r centre q rate)))
+pub biquad_listed : (r : Response) (centre q rate : Float) → Listed (biquad_of r centre q rate).verdict
 unfolding biquad_of report_of listed
 biquad_listed r centre q rate =
-    let way = either_way (λ (b : Result (List Float) Refusal). Listed (answered (numbers_of b))) in
+    let way = either_way (λ (b : Biquad). Listed b.verdict) in
     way (centre_taken centre rate) _ _ (way (quality_taken q) _ _ tt tt) tt
 
-pub preemphasis_listed : (tau rate : Float) → Listed (answered (numbers_of (preemphasis_of tau rate)))
+pub preemphasis_listed : (tau rate : Float) → Listed (preemphasis_of tau rate).verdict
 unfolding preemphasis_of report_of listed
 preemphasis_listed tau rate =
-    let way = either_way (λ (p : Result (List Float) Refusal). Listed (answered (numbers_of p))) in
+    let way = either_way (λ (p : Preemphasis). Listed p.verdict) in
     way (constant_taken tau) _ _ (way (rate_taken rate) _ _ tt tt) tt
 
 pub butterworth_listed : (r : Response) (order : ℕ) (cutoff rate : Float) (len : ℕ) → Listed (answered (butterworth_of r order cutoff rate len))

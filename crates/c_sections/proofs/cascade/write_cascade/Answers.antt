@@ -38,10 +38,10 @@ module _ {response : Response} {order : ℕ} {cutoff rate : Float} {n : ℕ} (ta
       ∙ ap (λ (k : ℕ). tabulate k (coef_at response order cutoff rate)) l
 
   -- and where they are written from such a list
-  writes_listed : {xs : List Float} {before after : List ℕ} {r : Report} → xs ≡ tabulate n (coef_at response order cutoff rate) → Writes float_bytes (numbers_of (Ok xs)) before r after → Writes float_bytes (butterworth_of response order cutoff rate n) before r after
+  writes_listed : {xs : List Float} {before after : List ℕ} {r : Report} → xs ≡ tabulate n (coef_at response order cutoff rate) → Writes float_bytes (numbers_of (Ok tt) xs) before r after → Writes float_bytes (butterworth_of response order cutoff rate n) before r after
   writes_listed {xs} {before} {after} {r} e h =
       let f = coef_at response order cutoff rate in
-      let w = subst (λ (l : List Float). Writes float_bytes (numbers_of (Ok l)) before r after) e h in
+      let w = subst (λ (l : List Float). Writes float_bytes (numbers_of (Ok tt) l) before r after) e h in
       let l = length_tabulate n f in
       fills taken.is (w.answer ∙ ap (λ (k : ℕ). accepted_of k (whole 0)) l)
       (w.buffer

@@ -17,4 +17,4 @@ pub returns : goal.returns
 unfolding section_at of_int of_bits
 returns c =
     let a = c.args.self in
-    rw (c.unwrap_or.ensures, c.biquad_coefs.ensures, c.quality.ensures) (sym (rw (ne_eqb a.order (2 * a.i + 1) c.if-self.false)))
+    rw (c.biquad_coefs-b.ensures, c.quality.ensures) (sym (rw (ne_eqb a.order (2 * a.i + 1) c.if-self.false)))
