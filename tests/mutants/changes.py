@@ -128,7 +128,11 @@ class Walk:
         elif NUMBER.match(word) and before != ".":
             self.number(k, word)
         elif NAME.match(word) and word not in KEYWORDS:
-            if after == "(" and before != ".":
+            if before == "::" and f"{words[k - 2]}::{word}" in self.reasons():
+                self.reason(k)
+            elif self.source.joined(k - 2, k) == "self ." and after != "(":
+                self.field(k)
+            elif after == "(" and before != ".":
                 self.swap_neighbours(self.source.parts(k + 1), self.source.called(k)[0])
             elif after == "{" and word in self.source.types.fields:
                 kinds, fields = self.source.types.fields[word], self.source.parts(k + 1)
@@ -162,13 +166,42 @@ class Walk:
         for other in [name for name in named if name != self.words[k]][:2] or ["0"]:
             self.add("refusal", (k, k + 1, other))
 
+    def reasons(self):
+        """The cases of `Reason`, which the refusals take their numbers from."""
+        return [case for case in self.source.types.carried if case.startswith("Reason::")]
+
+    def reason(self, k):
+        """The number of another refusal, as a case: two that the file names too, or the first of all."""
+        named = dict.fromkeys(re.findall(r"\bReason::\w+", self.source.text))
+        for other in self.others(k, named)[:2] or self.others(k, self.reasons())[:1]:
+            self.add("refusal", (k, k + 1, other))
+
+    def others(self, k, cases):
+        """Cases but the one at k, without their enum's name."""
+        names = [case.split("::")[1] for case in cases if case in self.reasons()]
+        return [name for name in names if name != self.words[k]]
+
     def variable(self, k):
-        """Another variable of the same type."""
-        seen, word = self.seen(), self.words[k]
-        kind, stored = seen.get(word, (None, False))[0], self.words[k + 1] in ("=", "+=", "-=", "*=")
-        for name, (other, mutable) in seen.items():
-            if kind and other == kind and name not in (word, *self.source.consts) and (mutable or not stored):
-                self.add("variable", (k, k + 1, name))
+        """Another variable, or field of self, of the same type."""
+        self.exchange(k, k, self.seen().get(self.words[k], (None, False))[0])
+
+    def field(self, k):
+        """The same for the field of self at k."""
+        self.exchange(k - 2, k, self.fields().get(self.words[k]))
+
+    def fields(self):
+        """The fields of self, with their types."""
+        return self.source.types.fields.get(self.seen().get("self", (None, False))[0], {})
+
+    def exchange(self, first, k, kind):
+        """Other names of a type for that from `first` to k."""
+        stored = self.words[k + 1] in ("=", "+=", "-=", "*=")
+        names = dict(self.seen())
+        names.update({f"self.{name}": (other, False) for name, other in self.fields().items()})
+        old = "".join(self.words[first : k + 1])
+        for name, (other, mutable) in names.items():
+            if kind and other == kind and name not in (old, *self.source.consts) and (mutable or not stored):
+                self.add("variable", (first, k + 1, name))
 
     def swap(self, operator, one, two):
         text, spans = self.source.text, self.source.spans

@@ -11,5 +11,7 @@ same_cases nan = refl
 same_cases (inf s) = refl
 same_cases (fin s m e) = refl
 
+-- std tells an infinity by its sign, and the definition has one case for both:
+-- so the cases are compared, and not the tests
 pub returns : goal.returns
 returns c = c.is_finite.ensures.value ∙ same_cases c.args.x

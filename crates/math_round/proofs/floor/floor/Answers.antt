@@ -29,5 +29,7 @@ pub returns-then-x-2 : goal.returns-then-x-2
 unfolding of_bits neg
 returns-then-x-2 c = c.floor_small.ensures (small_of c.args.x c.if-x.true c.if-x-2.true)
 
+-- beyond 2^50 std's floor serves: a size from 2^52 on has no fraction,
+-- and its answer is the definition's in every case
 pub returns-else-x : goal.returns-else-x
 returns-else-x c = c.floor.ensures ∙ same_floor c.args.x

@@ -7,6 +7,8 @@ use Rattle.math_sqrt.specs.Sqrt.{sqrt_of}
 use Rattle.math_sqrt.proofs.StdRoot.{sqrt_is}
 use Rattle.math_sqrt.proofs.sqrt.sqrt.Goals as goal
 
+-- std says what its root gives, and the law that this is the nearest f64:
+-- so both are cited one behind the other, and nothing else of the step
 pub returns-then-x : goal.returns-then-x
 returns-then-x c = c.sqrt.ensures.value ∙ sqrt_is c.args.x (subst T (sym c.well_formed.0.1) tt)
 
