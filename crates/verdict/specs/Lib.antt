@@ -1,4 +1,5 @@
 pub mod Numbers
+pub mod Decimals
 pub mod Report
 pub mod Outcome
 pub mod OutcomeLaws

@@ -1,5 +1,5 @@
 -- The refusals' numbers by name, and the list of them all. Definitions only. A new number is a definition and a place
--- in the list here, a line in the code and one in the header.
+-- in the list here, a case of `number_of` and a place in `Decimals`, a variant in the code and a line in the header.
 use Rattle.std.specs.Prelude.{ℕ, List, [], ◌∷◌}
 
 -- ---- caused by the ticket's author

@@ -14,8 +14,8 @@ use Rattle.c_formats.proofs.convert.convert.Goals as goal
 pub judge_lengths-requires-clause-wide_low : goal.judge_lengths-requires-clause-wide_low
 judge_lengths-requires-clause-wide_low g c = subst (λ (w : ℕ). 0 < w) (sym c.width.ensures) (wide g.E.Element.format)
 
-pub put_elements-requires : goal.put_elements-requires
-put_elements-requires g c =
+pub put-requires : goal.put-requires
+put-requires g c =
     let a = c.args in
     let judged = c.judge_lengths.ensures ∙ ap (λ (w : ℕ). lengths_of w a.group (length a.src.now) (length a.out.now)) c.width.ensures in
     let both_of = right_lengths (width_of g.E.Element.format) a.group (length a.src.now) (length a.out.now) (sym judged ∙ c.in_default.is) in
@@ -27,4 +27,4 @@ returns-in-Ok g c =
     let a = c.args in
     let judged = c.judge_lengths.ensures ∙ ap (λ (w : ℕ). lengths_of w a.group (length a.src.now) (length a.out.now)) c.width.ensures in
     converts (sym judged ∙ c.in_default.is)
-    (c.accepted.ensures ∙ ap (done_report (length a.src.now / 8)) (sym c.in-Ok.is ∙ c.put_elements.ensures.answer)) c.put_elements.ensures.buffer
+    (c.accepted.ensures ∙ ap (done_report (length a.src.now / 8)) (sym c.in-Ok.is ∙ c.put.ensures.answer)) c.put.ensures.buffer

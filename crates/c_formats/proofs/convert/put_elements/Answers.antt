@@ -1,28 +1,17 @@
 -- `c_formats::convert::put_elements` meets its contract. The loop's invariant: the elements so far are taken, and their
 -- bytes stand at the front. Assumes nothing.
-use Rattle.std.specs.Prelude.{Err, Result}
-use Rattle.std.specs.Simd.{first_chunks}
+use Rattle.std.specs.Prelude.{Err}
 use Rattle.std.proofs.Common.{rules}
 use mathlib.Core.Path.{◌≡◌, sym, ap, ◌∙◌}
-use mathlib.Core.List.{List}
 use Prim.Native.Nat.{ℕ, ◌*◌, ◌/◌, ◌<◌}
 use native.Mathlib.Nat.{mul-le-mul_left, mul-suc}
 use native.Mathlib.Omega.{arith}
-use lib.ListN.{length, get_or}
-use lib.Ieee.{binary64, of_bits}
-use Rattle.wire.specs.Bytes.{float_at, number_of, put_of}
-use Rattle.wire.specs.Read.{chunk_in}
-use Rattle.verdict.specs.declared.Refusal.{Refusal}
-use Rattle.c_formats.specs.Format.{Format}
-use Rattle.c_formats.specs.Formats.{width_of, encoded_of}
+use lib.ListN.{length}
+use Rattle.wire.specs.Bytes.{put_of}
+use Rattle.c_formats.specs.Formats.{width_of}
 use Rattle.c_formats.specs.ConversionLaws.{at_first, at_end, one_more, one_refused}
+use Rattle.c_formats.proofs.Elements.{read}
 use Rattle.c_formats.proofs.convert.put_elements.Goals as goal
-
--- element i, from the chunk that holds it
-read : (f : Format) (s none : List ℕ) {words : List (List ℕ)} {i bits : ℕ} {r : Result ℕ Refusal} → words ≡ first_chunks 8 (length s / 8) s → bits ≡ number_of (get_or words i none) → i < length s / 8 → r ≡ encoded_of f i (of_bits binary64 bits) → r ≡ encoded_of f i (float_at s (8 * i))
-read f s none {i = i} front chunk within told =
-    let at = ap (λ (l : List (List ℕ)). get_or l i none) front ∙ chunk_in 8 (length s / 8) i s none within in
-    told ∙ ap (λ (b : ℕ). encoded_of f i (of_bits binary64 b)) (chunk ∙ ap number_of at)
 
 pub loop-i-init : goal.loop-i-init
 loop-i-init g c = let a = c.args in (omega arith, at_first g.E.Element.format a.src.now a.out.now)

@@ -6,7 +6,7 @@ use Rattle.wire.specs.Bytes.{twos_of}
 use Rattle.c_formats.specs.Format.{Format}
 use Rattle.c_formats.specs.Formats.{encoded_of, coded_of}
 use Rattle.c_formats.specs.FormatLaws.{encoded_q15}
-use Rattle.c_formats.proofs.element.Q15Element.encode.Goals as goal
+use Rattle.c_formats.proofs.element.Q15Encoded.encode.Goals as goal
 
 pub returns-in_err-q : goal.returns-in_err-q
 returns-in_err-q c =
