@@ -56,8 +56,7 @@ pub(crate) fn put_singles(src: &[u8], out: &mut [u8])
 {
     let words = src.as_chunks::<8>().0;
     for i in 0..words.len() {
-        let bits = wire::number_in(&words[i]);
-        let pattern = fmt_f32::narrow::pattern_of_bits(bits);
+        let pattern = fmt_f32::narrow::pattern_of_bits(wire::number_in(&words[i]));
         put_four(&mut *out, 4 * i, pattern as u64);
     }
 }

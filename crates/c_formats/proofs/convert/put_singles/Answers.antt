@@ -26,7 +26,7 @@ unfolding width_of pattern_of
 loop-i-preserved c =
     let within : c.loop-i.i < length c.args.src.now / 8 = omega (arith, c.loop-i-test.true, c.as_chunks.ensures.front_len) in
     let told = ap Ok c.pattern_of_bits-pattern.ensures ∙ encoded_single c.loop-i.i _ in
-    let outcome = read Format.Single c.args.src.now _ c.as_chunks.ensures.front c.number_in-bits.ensures within told in
+    let outcome = read Format.Single c.args.src.now _ c.as_chunks.ensures.front c.number_in.ensures within told in
     (omega arith, one_more c.loop-i.invariant.1 c.requires.room within (sym outcome) c.put_four.ensures)
 
 pub shape_of-out : goal.shape_of-out
