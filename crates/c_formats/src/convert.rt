@@ -30,7 +30,9 @@ fn judge_lengths(from: u64, to: u64, wide: u64, group: u64) -> Result<(), Refusa
     Ok(())
 }
 
-// The elements of a source of whole f64s into a destination for as many, up to the first that isn't taken.
+// The elements of a source of whole f64s into a destination for as many, up to the first that isn't taken. Never
+// inlined, so that the loop is laid out by itself: within an export it took up to 1.4 of the time.
+#[inline(never)]
 pub(crate) fn put_elements<E: Encoded>(src: &[u8], out: &mut [u8]) -> Result<(), Refusal>
     requires whole { length src.now % 8 ≡ 0 }
     requires room { length out.old ≡ width_of E.format * (length src.now / 8) }
