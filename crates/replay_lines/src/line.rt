@@ -1,5 +1,5 @@
 // A line of the list, taken apart: a kind in decimal, then words of 16 hexadecimal digits, each after one space.
-ghost use Rattle.std.specs.Prelude.{◌≡◌, ◌-◌, ◌<◌, length, take, IfSome, ◌==◌};
+ghost use Rattle.std.specs.Prelude.{◌≡◌, ◌-◌, ◌<◌, ◌≤◌, length, take, IfSome, ◌==◌};
 ghost use Rattle.std.specs.List.{before_first};
 ghost use Rattle.std.specs.Str.Parse.{digits_value};
 ghost use Rattle.replay_lines.specs.Digits.{digit_of};
@@ -7,7 +7,6 @@ ghost use Rattle.replay_lines.specs.Kinds.{kind_number};
 ghost use Rattle.replay_lines.specs.Words.{word_at};
 
 use crate::kind::Kind;
-use arrayvec::ArrayVec;
 
 // The most words that a line has.
 pub const WORDS: usize = 96;
@@ -18,10 +17,26 @@ const STEP: usize = 17;
 // The room for a line: at most three digits of a kind, the words and the newline.
 pub const TEXT: usize = 3 + WORDS * STEP + 1;
 
-#[derive(Clone, Drop)]
+// The words of a line: an array with their count, so that a line can be copied, which one with an `ArrayVec` can't.
+#[derive(Clone, Copy)]
+pub struct Words {
+    room: [u64; WORDS],
+    count: usize,
+    ghost count_high: { count ≤ 96 },
+}
+
+impl Words {
+    pub fn as_slice(&self) -> &[u64]
+        ensures { result.now ≡ take self.now.count self.now.room }
+    {
+        &self.room[..self.count]
+    }
+}
+
+#[derive(Clone, Copy)]
 pub struct Line {
     pub kind: Kind,
-    pub words: ArrayVec<u64, WORDS>,
+    pub words: Words,
 }
 
 // The value of a digit, the letters in upper case.
@@ -53,15 +68,19 @@ fn read_word(text: &[u8; STEP]) -> Option<u64>
 }
 
 // The words, where nothing else stands in the text.
-fn read_words(text: &[u8]) -> Option<ArrayVec<u64, WORDS>> {
+fn read_words(text: &[u8]) -> Option<Words> {
     let (steps, []) = text.as_chunks::<STEP>() else {
         return None;
     };
-    let mut words = ArrayVec::new();
-    for step in steps {
-        words.try_push(read_word(step)?).ok()?;
+    let count = steps.len();
+    if count > WORDS {
+        return None;
     }
-    Some(words)
+    let mut room = [0; WORDS];
+    for i in 0..count {
+        room[i] = read_word(&steps[i])?;
+    }
+    Some(Words { room, count })
 }
 
 // The kind whose number the text is, with no zero in front.
