@@ -26,6 +26,8 @@ use math_sqrt::sqrt::sqrt;
 use math_trig::cos::cos;
 use math_trig::sin::sin;
 use replay_lines::kind::Kind;
+use replay_lines::line::WORDS;
+use replay_lines::source::TakesLines;
 use replay_lines::tally::Tally;
 use replay_lines::{line, source};
 
@@ -82,16 +84,32 @@ fn judge(kind: Kind, words: &[u64]) -> Option<bool> {
 }
 
 // The kind of a line, and whether the port answers as it tells.
-fn judge_line(text: &[u8]) -> Option<(Kind, bool)> {
-    let line = line::take_apart(text)?;
+fn judge_line(text: &[u8], room: &mut [u64; WORDS]) -> Option<(Kind, bool)> {
+    let line = line::take_apart(text, room)?;
     let is_same = judge(line.kind, line.words.as_slice())?;
     Some((line.kind, is_same))
 }
 
+// What the lines came to so far, and the room for the words of one.
+#[derive(Drop)]
+struct Replay<'a, P> {
+    rt: &'a P,
+    tally: Tally,
+    room: [u64; WORDS],
+}
+
+impl<P: Print> TakesLines for Replay<'_, P> {
+    fn take(&mut self, text: &[u8]) {
+        self.tally.note(self.rt, judge_line(text, &mut self.room));
+    }
+}
+
 fn main(rt: HostRuntime) {
-    let mut tally = Tally::default();
-    source::for_each_line(&rt, &mut rt.stdin(), |text| {
-        tally.note(&rt, judge_line(text));
-    });
-    tally.print(&rt);
+    let mut replay = Replay {
+        rt: &rt,
+        tally: Tally::default(),
+        room: [0; WORDS],
+    };
+    source::for_each_line(&rt, &mut rt.stdin(), &mut replay);
+    replay.tally.print(&rt);
 }

@@ -1,6 +1,6 @@
 // Windows that are written to a buffer, whose length in bytes is the last argument. A sample has width bytes: two of a
 // Q15 number, four of an f32.
-use replay_lines::written;
+use crate::written;
 use verdict::Report;
 use wire::float_of;
 

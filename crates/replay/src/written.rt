@@ -7,12 +7,28 @@ use c_pulses::halfbands::pel_halfband;
 use c_pulses::pulse::pel_gaussian;
 use c_sections::cascade::pel_butterworth_sos;
 use c_sections::section::{pel_biquad_coefs, pel_preemphasis_coefs};
-use replay_lines::written::judge;
+use replay_lines::lent::{MARK, ROOM};
+use replay_lines::{lent, written};
 use verdict::Report;
 use wire::float_of;
 
 // The bytes of an f64.
 const TAP: usize = 8;
+
+// Whether write answers and writes what the words from the buffer's length on tell; its elements have width bytes.
+pub(crate) fn judge<F: FnOnce(&mut [u8]) -> Report>(
+    words: &[u64],
+    width: usize,
+    write: F,
+) -> Option<bool>
+    requires { F.IsAlwaysCallable write }
+{
+    let (asked, answer) = words.split_first()?;
+    let bytes = lent::length(*asked)?;
+    let mut out = [MARK; ROOM];
+    let r = write(&mut out[..bytes]);
+    written::judge(r, &out, answer, bytes, width)
+}
 
 pub(crate) fn lowpass(words: &[u64]) -> Option<bool> {
     let (&[cutoff, rate, window, beta], written) = words.split_first_chunk::<4>()?;

@@ -1,8 +1,7 @@
 // A buffer of f64s that was converted. A line has the destination's and the source's length in bytes, the source's
 // whole elements, the report, and the patterns that were written.
-use crate::lent::{MARK, ROOM};
+use crate::lent::ROOM;
 use crate::written::Answer;
-use crate::{lent, offered};
 use verdict::Report;
 
 // The number of the refusal that stops a conversion.
@@ -19,22 +18,18 @@ fn can_have(answer: &Answer, elements: usize) -> bool {
     }
 }
 
-// Whether convert answers and writes what the words tell; its numbers have width bytes.
-pub fn judge<F: FnOnce(&[u8], &mut [u8]) -> Report>(
+// Whether the words after the source's elements tell what came of their conversion: out had marks alone before it, and
+// it was answered with r. Its numbers have width bytes.
+pub fn judge(
+    r: Report,
+    out: &[u8; ROOM],
     words: &[u64],
+    elements: usize,
     width: usize,
-    convert: F,
-) -> Option<bool>
-    requires { F.IsAlwaysCallable convert }
-{
-    let (to, source) = words.split_first()?;
-    let bytes = lent::length(*to)?;
-    let (source, answer) = offered::buffer(source, 8)?;
-    let answer = Answer::read(answer)?;
-    if !can_have(&answer, source.len() / 8) {
+) -> Option<bool> {
+    let answer = Answer::read(words)?;
+    if !can_have(&answer, elements) {
         return None;
     }
-    let mut out = [MARK; ROOM];
-    let r = convert(source.as_slice(), &mut out[..bytes]);
-    Some(answer.is(r, &out, width))
+    Some(answer.is(r, out, width))
 }

@@ -9,7 +9,10 @@ pub const LENT: u64 = 4096;
 pub const ROOM: usize = 4104;
 
 // What every byte is before the call.
-pub(crate) const MARK: u8 = 0xA5;
+pub const MARK: u8 = 0xA5;
+
+// Eight of them.
+const MARKS: u64 = MARK as u64 * 0x0101_0101_0101_0101;
 
 // The most elements that a buffer of a line has: taps, samples or numbers.
 pub const ELEMENTS: usize = 32;
@@ -30,6 +33,15 @@ fn number(bytes: &[u8]) -> u64 {
     bytes.iter().rev().fold(0, |n, b| n << 8 | u64::from(*b))
 }
 
+// Is every byte a mark? Eight are looked at in one, since a call leaves most of the buffer as it was.
+fn are_marks(bytes: &[u8]) -> bool {
+    let (eights, rest) = bytes.as_chunks::<8>();
+    eights
+        .iter()
+        .all(|eight| u64::from_le_bytes(*eight) == MARKS)
+        && rest.iter().all(|b| *b == MARK)
+}
+
 // Are the elements, of width bytes each, the start of the buffer, and does nothing else stand in it?
 pub fn holds(out: &[u8; ROOM], elements: &[u64], width: usize) -> bool {
     let mut rest = out.as_slice();
@@ -42,5 +54,5 @@ pub fn holds(out: &[u8; ROOM], elements: &[u64], width: usize) -> bool {
         }
         rest = after;
     }
-    rest.iter().all(|b| *b == MARK)
+    are_marks(rest)
 }

@@ -17,26 +17,28 @@ const STEP: usize = 17;
 // The room for a line: at most three digits of a kind, the words and the newline.
 pub const TEXT: usize = 3 + WORDS * STEP + 1;
 
-// The words of a line: an array with their count, so that a line can be copied, which one with an `ArrayVec` can't.
+// The words of a line: how many there are, and the array that they were put into. Whoever reads lines lends it, one for
+// all of them, since an array for each would have to be cleared and moved.
 #[derive(Clone, Copy)]
-pub struct Words {
-    room: [u64; WORDS],
+pub struct Words<'a> {
+    room: &'a [u64; WORDS],
     count: usize,
     ghost count_high: { count ≤ 96 },
 }
 
-impl Words {
+impl Words<'_> {
     pub fn as_slice(&self) -> &[u64]
-        ensures { result.now ≡ take self.now.count self.now.room }
+        ensures { result.now ≡ take self.now.count self.now.room.now }
     {
-        &self.room[..self.count]
+        let room = self.room;
+        &room[..self.count]
     }
 }
 
 #[derive(Clone, Copy)]
-pub struct Line {
+pub struct Line<'a> {
     pub kind: Kind,
-    pub words: Words,
+    pub words: Words<'a>,
 }
 
 // The value of a digit, the letters in upper case.
@@ -67,8 +69,8 @@ fn read_word(text: &[u8; STEP]) -> Option<u64>
     Some(value)
 }
 
-// The words, where nothing else stands in the text.
-fn read_words(text: &[u8]) -> Option<Words> {
+// The words, where nothing else stands in the text. They are put into room.
+fn read_words<'a>(text: &[u8], room: &'a mut [u64; WORDS]) -> Option<Words<'a>> {
     let (steps, []) = text.as_chunks::<STEP>() else {
         return None;
     };
@@ -76,27 +78,29 @@ fn read_words(text: &[u8]) -> Option<Words> {
     if count > WORDS {
         return None;
     }
-    let mut room = [0; WORDS];
     for i in 0..count {
         room[i] = read_word(&steps[i])?;
     }
     Some(Words { room, count })
 }
 
-// The kind whose number the text is, with no zero in front.
+// The kind whose number the text is, of one digit or two and with no zero in front.
 fn read_kind(text: &[u8]) -> Option<Kind>
     ensures value { IfSome result (λ kind. kind_number kind ≡ digits_value 10 text.now) }
     ensures small { IfSome result (λ kind. kind_number kind < 1000) }
 {
-    let [b'1'..=b'9', ..] = text else {
-        return None;
+    let number = match text {
+        [ones @ b'1'..=b'9'] => usize::from(ones - b'0'),
+        [tens @ b'1'..=b'9', ones @ b'0'..=b'9'] => {
+            usize::from(tens - b'0') * 10 + usize::from(ones - b'0')
+        }
+        _ => return None,
     };
-    let number: usize = str::from_utf8(text).ok()?.parse().ok()?;
     Kind::try_from(number).ok()
 }
 
-// The line, where it is whole and can be read.
-pub fn take_apart(text: &[u8]) -> Option<Line>
+// The line, where it is whole and can be read. Its words are put into room.
+pub fn take_apart<'a>(text: &[u8], room: &'a mut [u64; WORDS]) -> Option<Line<'a>>
     ensures number { IfSome result (λ line. kind_number line.kind
         ≡ digits_value 10 (before_first (λ b. b == 32) (take (length text.now - 1) text.now))) }
     ensures small { IfSome result (λ line. kind_number line.kind < 1000) }
@@ -108,6 +112,6 @@ pub fn take_apart(text: &[u8]) -> Option<Line>
     let (kind, words) = line.split_at(end);
     Some(Line {
         kind: read_kind(kind)?,
-        words: read_words(words)?,
+        words: read_words(words, room)?,
     })
 }

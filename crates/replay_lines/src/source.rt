@@ -6,12 +6,24 @@ use std::io::Read;
 // How many bytes are read at once.
 pub const CHUNK: usize = 4096;
 
-// Hands each line to take, with its newline. A byte for which a line has no room is dropped, so that a line that is too
-// long has no newline, as what stands at the end of the input without one: neither can be read. A proved loop has to
-// end, and nothing says that the input does. So the reads are counted, up to a number that no run reaches.
-pub fn for_each_line<F: FnMut(&[u8])>(rt: &impl Print, input: &mut impl Read, mut take: F)
-    requires { F.IsAlwaysCallable take }
-{
+// What takes the lines. It is no closure, since a function that calls one has to require that it may be called.
+pub trait TakesLines {
+    // A line with its newline, or what can't be read: what stands at the end of the input without one.
+    fn take(&mut self, text: &[u8]);
+}
+
+// Puts a part of a line behind what came of it before. A byte for which a line has no room is dropped, the newline too:
+// so long a line can't be read in any case, since it has too many words or too long a kind.
+fn append(text: &mut ArrayVec<u8, TEXT>, part: &[u8]) {
+    for byte in part {
+        let _ = text.try_push(*byte);
+    }
+}
+
+// Hands each line to judge, with its newline: as it stands in the chunk, or put together where an earlier chunk has the
+// start of it. A proved loop has to end, and nothing says that the input does. So the reads are counted, up to a number
+// that no run reaches.
+pub fn for_each_line(rt: &impl Print, input: &mut impl Read, judge: &mut impl TakesLines) {
     let mut chunk = [0u8; CHUNK];
     let mut text = ArrayVec::<u8, TEXT>::new();
     for _ in 0..u64::MAX {
@@ -22,15 +34,24 @@ pub fn for_each_line<F: FnMut(&[u8])>(rt: &impl Print, input: &mut impl Read, mu
         if n == 0 {
             break;
         }
-        for byte in &chunk[..n] {
-            let _ = text.try_push(*byte);
-            if *byte == b'\n' {
-                take(text.as_slice());
+        let mut from = 0;
+        for at in 0..n {
+            if chunk[at] != b'\n' {
+                continue;
+            }
+            let part = &chunk[from..at + 1];
+            if text.is_empty() {
+                judge.take(part);
+            } else {
+                append(&mut text, part);
+                judge.take(text.as_slice());
                 text.clear();
             }
+            from = at + 1;
         }
+        append(&mut text, &chunk[from..n]);
     }
     if !text.is_empty() {
-        take(text.as_slice());
+        judge.take(text.as_slice());
     }
 }

@@ -1,6 +1,6 @@
 // What was written to a buffer. A line's last argument is the buffer's length in bytes, and where the answer is no
 // refusal the patterns of the buffer's elements follow the report.
-use crate::lent::{ELEMENTS, MARK, ROOM};
+use crate::lent::{ELEMENTS, ROOM};
 use crate::told::FIELDS;
 use crate::{lent, told};
 use verdict::Report;
@@ -50,17 +50,18 @@ fn can_have(answer: &Answer, bytes: usize, width: usize) -> bool {
     }
 }
 
-// Whether write answers and writes what the words from the buffer's length on tell; its elements have width bytes.
-pub fn judge<F: FnOnce(&mut [u8]) -> Report>(words: &[u64], width: usize, write: F) -> Option<bool>
-    requires { F.IsAlwaysCallable write }
-{
-    let (asked, answer) = words.split_first()?;
-    let bytes = lent::length(*asked)?;
-    let answer = Answer::read(answer)?;
+// Whether the words after the buffer's length tell what came of a call: it was lent so many bytes of out, which had
+// marks alone before it, and was answered with r. Its elements have width bytes.
+pub fn judge(
+    r: Report,
+    out: &[u8; ROOM],
+    words: &[u64],
+    bytes: usize,
+    width: usize,
+) -> Option<bool> {
+    let answer = Answer::read(words)?;
     if !can_have(&answer, bytes, width) {
         return None;
     }
-    let mut out = [MARK; ROOM];
-    let r = write(&mut out[..bytes]);
-    Some(answer.is(r, &out, width))
+    Some(answer.is(r, out, width))
 }
