@@ -14,7 +14,7 @@ pub const WORDS: usize = 96;
 // A space and 16 digits.
 const STEP: usize = 17;
 
-// The room for a line: at most three digits of a kind, the words and the newline.
+// The room for a line: three bytes for a kind, which has at most two digits, the words and the newline.
 pub const TEXT: usize = 3 + WORDS * STEP + 1;
 
 // The words of a line: how many there are, and the array that they were put into. Whoever reads lines lends it, one for

@@ -12,12 +12,11 @@ pub trait TakesLines {
     fn take(&mut self, text: &[u8]);
 }
 
-// Puts a part of a line behind what came of it before. A byte for which a line has no room is dropped, the newline too:
-// so long a line can't be read in any case, since it has too many words or too long a kind.
+// Puts a part of a line behind what came of it before. What a line has no room for is dropped, the newline too: no line
+// that is so long can be read.
 fn append(text: &mut ArrayVec<u8, TEXT>, part: &[u8]) {
-    for byte in part {
-        let _ = text.try_push(*byte);
-    }
+    let room = part.len().min(text.remaining_capacity());
+    let _ = text.try_extend_from_slice(&part[..room]);
 }
 
 // Hands each line to judge, with its newline: as it stands in the chunk, or put together where an earlier chunk has the
